@@ -12,7 +12,12 @@ pub record SinkState : Type 0 where
 
 -- a sink of nothing so far
 abbrev pub empty_sink : List ℕ → List ℕ → ℕ → SinkState
-empty_sink pieces failing room = record { bytes = []; room = room; pieces = pieces; counts = no_calls failing }
+empty_sink pieces failing room = record {
+  bytes = [];
+  room = room;
+  pieces = pieces;
+  counts = no_calls failing;
+}
 
 -- whether the next write fails: by its number, or since there is no room for any of the piece
 abbrev pub fails_write : SinkState → List ℕ → Bool
