@@ -1,2 +1,6 @@
+pub mod Calls
 pub mod Faults
 pub mod Held
+pub mod MemFiles
+pub mod MemSinks
+pub mod Parts

@@ -7,6 +7,7 @@
 //! stand in the program.
 #![tactic(auto)]
 
+mod calls;
 mod failed;
 mod files;
 mod mem_files;
