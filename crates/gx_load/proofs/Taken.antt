@@ -1,13 +1,14 @@
 -- One read of a reader, as the list of the records that are left.
-use Rattle.std.proofs.Common.{Bor, ◌≡◌, ◌∙◌, ◌+◌, ◌<◌, ℕ, Bool, true, false, List, [], ◌∷◌, ◌++◌, length, Option, Some, refl, sym, ap, inl, arith, add-one}
+use Rattle.std.proofs.Common.{Bor, ◌≡◌, ◌∙◌, ◌+◌, ℕ, Bool, true, false, List, [], ◌∷◌, length, Option, Some, refl, sym, ap, inl, arith, add-one}
 use Rattle.std.proofs.lemmas.Bool.{false≢true}
 use Rattle.std.specs.Bool.{MatchBool}
 use Rattle.csv.proofs.ReadFacts.{rows-end, rows-more}
 use Rattle.csv.specs.Machine.{Read, ends_at_end, next_record}
-use Rattle.csv.specs.Reading.{Reached, ReadRecord, default_config, records_from, records_next}
+use Rattle.csv.specs.Reading.{Ready, Reached, ReadRecord, default_config, records_from}
 use Rattle.csv.specs.declared.parser.State.{State}
 use Rattle.csv.specs.declared.reader.Reader.{Reader}
-use Rattle.gx_load.specs.Left.{IsPlain, bytes_left, records_after, records_left}
+use Rattle.csv.specs.declared.reader.Trim.TheVariants as trim
+use Rattle.gx_load.specs.Left.{IsPlain, records_after, records_left}
 use Rattle.gx_load.proofs.Machine.{next_record-lands, next_record-shorter, records_from-enough}
 
 -- the records from a place between two are the next one and those after it
@@ -47,10 +48,10 @@ none a b fields plain read =
 
 -- a read takes the first record that is left, if there is one, and then the reader goes on
 pub took : (a b : Reader (Bor (List ℕ))) (found : Bool) (fields : List (List ℕ))
-    → IsPlain a → b.first ≡ true → ReadRecord (λ s. Some s.now) a b found fields
+    → IsPlain a → (a.trim ≡ trim.None → b.first ≡ true) → (a.trim ≡ trim.None → Ready a → ReadRecord (λ s. Some s.now) a b found fields)
     → MatchBool found (records_left true a ≡ fields ∷ records_left found b) ((records_left true a ≡ []) × (records_left found b ≡ []))
     × (found ≡ true → IsPlain b)
 took a b true fields plain first read =
-    let x = some a b fields plain first read in
+    let x = some a b fields plain (first plain.trim) (read plain.trim plain.ready) in
     (x.0, λ e. x.1)
-took a b false fields plain first read = ((none a b fields plain read, refl), λ e. absurd (false≢true e))
+took a b false fields plain first read = ((none a b fields plain (read plain.trim plain.ready), refl), λ e. absurd (false≢true e))

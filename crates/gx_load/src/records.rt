@@ -67,3 +67,40 @@ impl<'a> Records<'a> {
         Ok(found)
     }
 }
+
+#[cfg(test)]
+mod tests {
+    use super::*;
+    use std::test::Fail;
+
+    // The records of a text, with a bar after each field and a line for each record.
+    fn spelled(alloc: Global, text: &[u8]) -> Result<Vec<u8>, NoMemory> {
+        let mut records = Records::of(alloc, text);
+        let mut row = ByteRecord::new(alloc);
+        let mut lines = Vec::new(alloc);
+        while records.take(&mut row)? {
+            for field in row.iter() {
+                lines.extend_from_slice(field)?;
+                lines.push(b'|')?;
+            }
+            lines.push(b'\n')?;
+        }
+        Ok(lines)
+    }
+
+    #[test]
+    fn takes_each_record(rt: HostRuntime) -> Result<(), Fail> {
+        let cases = [
+            ("", ""),
+            ("\n\r\n", ""),
+            ("\u{feff}id,age\n1, 25\n", "id|age|\n1| 25|\n"),
+            ("a\r\n\r\nb,c\rd", "a|\nb|c|\nd|\n"),
+            ("a,\"b,\"\"c\"\n,", "a|b,\"c|\n||\n"),
+        ];
+        for (text, expected) in cases {
+            let lines = spelled(rt.alloc(), text.as_bytes())?;
+            assert_eq!(rt; lines.as_slice(), expected.as_bytes(), "at {text:?}");
+        }
+        Ok(())
+    }
+}
