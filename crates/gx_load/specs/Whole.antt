@@ -11,3 +11,8 @@ HasBytes (Some entries) name bytes = bytes_under name entries ≡ Some bytes
 abbrev pub IsLonger : Option Entries → List ℕ → ℕ → Type 0
 IsLonger None name limit = ⊤
 IsLonger (Some entries) name limit = (bytes : List ℕ) × (bytes_under name entries ≡ Some bytes) × (limit < length bytes)
+
+-- the names are told, and the bytes under the name are more than the limit
+abbrev pub IsToldLonger : Option Entries → List ℕ → ℕ → Type 0
+IsToldLonger None name limit = ⊥
+IsToldLonger (Some entries) name limit = IsLonger (Some entries) name limit

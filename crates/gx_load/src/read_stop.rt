@@ -1,5 +1,9 @@
 //! Why a file was not read.
 
+ghost use Rattle.std.specs.Prelude.{◌≡◌};
+
+use gx_outside::Failed;
+use std::alloc::AllocError;
 use thiserror::Error;
 
 /// Why a file was not read whole.
@@ -14,4 +18,24 @@ pub enum ReadStop {
     /// There is no room for the bytes.
     #[error("out of memory")]
     NoMemory,
+}
+
+impl From<Failed> for ReadStop {
+    ghost use Rattle.gx_load.specs.declared.read_stop.ReadStop.TheVariants as read_stop;
+
+    ghost from_gives = { λ _ stop. stop ≡ read_stop.Failed };
+
+    fn from(_failed: Failed) -> ReadStop {
+        ReadStop::Failed
+    }
+}
+
+impl From<AllocError> for ReadStop {
+    ghost use Rattle.gx_load.specs.declared.read_stop.ReadStop.TheVariants as read_stop;
+
+    ghost from_gives = { λ _ stop. stop ≡ read_stop.NoMemory };
+
+    fn from(_error: AllocError) -> ReadStop {
+        ReadStop::NoMemory
+    }
 }
