@@ -1,5 +1,5 @@
 -- The whole number that a text writes: what `parse` says of it, and that only text writes one.
-use Rattle.std.proofs.Common.{◌≡◌, ◌∷◌, [], ◌<◌, ◌^◌, ℕ, ℤ, Bool, List, Option, None, Some, Result, Ok, Err, true, false, length, refl, sym, arith, zero, suc, inl, inr}
+use Rattle.std.proofs.Common.{◌≡◌, ◌∷◌, [], ◌<◌, ◌^◌, ℕ, ℤ, Bool, List, Option, None, Some, Result, Ok, Err, true, false, length, refl, sym, arith, zero, suc, get_or, inl, inr}
 use Rattle.std.proofs.lemmas.Bool.{ltb-true, lt-ltb}
 use Rattle.std.proofs.lemmas.Bool.Decides.{eqb_tells}
 use Rattle.std.proofs.lemmas.Str.{IsUtf8-from_ascii}
@@ -10,7 +10,8 @@ use Rattle.std.specs.Int.{w64}
 use Rattle.std.specs.Result.{result_ok}
 use Rattle.std.specs.Str.{IsAscii, all_ascii_digits}
 use Rattle.std.specs.Str.Parse.{AllDigits, IsNumeral, ParsesSigned, digits_value, signed_digits_value, without_leading_sign}
-use Rattle.gx_load.specs.Cells.{fits_64_bits, is_numeral, number_of}
+use Rattle.csv.specs.Records.{field_at}
+use Rattle.gx_load.specs.Cells.{cut, fits_64_bits, int_of, is_numeral, number_of}
 
 digits : IsNumeralModel (λ ds. all_ascii_digits ds ≡ true) (digits_value 10)
 digits = numerals_by_value (λ ds. all_ascii_digits ds ≡ true) tells_all_ascii_digits
@@ -69,3 +70,10 @@ IsUtf8-numeral (c ∷ cs) h = IsUtf8-from_ascii (c ∷ cs) (sign_then_digits c c
 -- what is not text writes no number
 pub number_of-not_utf8 : (text : List ℕ) → ¬ (IsUtf8 text) → number_of text ≡ None
 number_of-not_utf8 text h = no_number text (λ n. h (IsUtf8-numeral text n.0))
+
+-- a place without a field has no number
+pub int_of-no_field : (fields : List (List ℕ)) (place : ℕ) → field_at fields place ≡ None → int_of (get_or fields place []) ≡ None
+unfolding int_of number_of cut field_at
+int_of-no_field [] place e = refl
+int_of-no_field (f ∷ fs) zero e = cc e
+int_of-no_field (f ∷ fs) (suc i) e = int_of-no_field fs i e

@@ -1,1 +1,4 @@
 pub mod CellLemmas
+pub mod GivesLemmas
+pub mod HeaderLemmas
+pub mod RowLemmas
