@@ -7,7 +7,7 @@ use Rattle.gx_load.specs.declared.load_stop.LoadStop.{LoadStop}
 use Rattle.gx_load.specs.declared.load_stop.LoadStop.TheVariants as load_stop
 
 -- a stop that is meant
-pub Gives-stop : {A B : Type 0} (view : A → B) (stop : LoadStop) (meant : Result B LoadStop) → meant ≡ Err stop → Gives view (Err stop) meant
+Gives-stop : {A B : Type 0} (view : A → B) (stop : LoadStop) (meant : Result B LoadStop) → meant ≡ Err stop → Gives view (Err stop) meant
 Gives-stop view load_stop.NoMemory meant e = tt
 Gives-stop view (load_stop.Data stop) meant e = e
 Gives-stop view load_stop.TooManyRows meant e = e
@@ -18,12 +18,18 @@ pub Gives-returned : {A B : Type 0} (view : A → B) (answer : Result A LoadStop
 Gives-returned view (Ok x) stop meant h e = absurd h
 Gives-returned view (Err d) stop meant h e = rw h (Gives-stop view stop meant e)
 
--- a stop that is passed up
-pub Gives-passed : {A B C D : Type 0} (inner : A → B) (outer : C → D) (stop : LoadStop) (part : Result B LoadStop) (whole : Result D LoadStop)
+-- a stop of a part that is the stop of the whole
+Gives-passed : {A B C D : Type 0} (inner : A → B) (outer : C → D) (stop : LoadStop) (part : Result B LoadStop) (whole : Result D LoadStop)
     → Gives inner (Err stop) part → (part ≡ Err stop → whole ≡ Err stop) → Gives outer (Err stop) whole
 Gives-passed inner outer load_stop.NoMemory part whole given up = tt
 Gives-passed inner outer (load_stop.Data stop) part whole given up = up given
 Gives-passed inner outer load_stop.TooManyRows part whole given up = up given
+
+-- the same where it was carried by `?`
+pub Gives-carried : {A B C D : Type 0} (inner : A → B) (outer : C → D) (answer : Result C LoadStop) (stop : LoadStop) (part : Result B LoadStop) (whole : Result D LoadStop)
+    → IsErrAnd answer (λ e. e ≡ stop) → Gives inner (Err stop) part → (part ≡ Err stop → whole ≡ Err stop) → Gives outer answer whole
+Gives-carried inner outer (Ok x) stop part whole h given up = absurd h
+Gives-carried inner outer (Err d) stop part whole h given up = rw h (Gives-passed inner outer stop part whole given up)
 
 -- before any entry
 pub with_front-none : {A E : Type 0} (rest : Result (List A) E) → with_front [] rest ≡ rest

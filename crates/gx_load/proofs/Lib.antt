@@ -1,4 +1,5 @@
 pub mod CellLemmas
+pub mod FileLemmas
 pub mod GivesLemmas
 pub mod HeaderLemmas
 pub mod RowLemmas

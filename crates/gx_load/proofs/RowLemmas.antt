@@ -1,4 +1,4 @@
--- The values of a row, cell by cell, and the rows of a file, record by record.
+-- The values of a row, cell by cell.
 use Rattle.std.proofs.Common.{◌≡◌, ◌+◌, ◌<◌, ◌≤◌, ◌∙◌, [], ◌∷◌, ◌++◌, ℕ, List, Result, Ok, Err, length, get_or, drop, drop-cons, add-one, refl, sym, ap}
 use Rattle.std.proofs.lemmas.List.{drop_all}
 use Rattle.gx_rows.specs.Steps.{one_more, with_front, with_front-one_more, with_front-stop}
