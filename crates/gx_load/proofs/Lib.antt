@@ -1,2 +1,7 @@
+pub mod CellLemmas
+pub mod FileLemmas
+pub mod GivesLemmas
+pub mod HeaderLemmas
 pub mod Machine
+pub mod RowLemmas
 pub mod Taken

@@ -37,11 +37,15 @@ places_from column (name ∷ names) header = one_more (place_at column name head
 abbrev pub int_at : ℕ → ℕ → ℕ → List (List ℕ) → Result ℤ LoadStop
 int_at row column place fields = ok_or (int_of (slice_index_or fields place [])) (load_stop.Data (row_stop.Cell row column cell_kind.NotInt))
 
+-- the value in a cell of a row
+abbrev pub value_at : ℕ → ℕ → ℕ → List (List ℕ) → Result Value LoadStop
+value_at row column place fields = int_at row column place fields >>= λ number. Ok (value.Int number)
+
 -- the values in the cells at these places, numbered from this column on
 unfoldable pub values_from : ℕ → ℕ → List ℕ → List (List ℕ) → Result (List Value) LoadStop
 values_from row column [] fields = Ok []
 values_from row column (place ∷ places) fields =
-    one_more (int_at row column place fields >>= λ number. Ok (value.Int number)) (values_from row (column + 1) places fields)
+    one_more (value_at row column place fields) (values_from row (column + 1) places fields)
 
 -- the keys and the values of a row, read in the order of its columns
 abbrev pub cells_of : ℕ → List ℕ → ℕ → List (List ℕ) → Result Loaded LoadStop

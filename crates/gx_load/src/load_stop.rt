@@ -1,5 +1,11 @@
 //! Where loading stops.
 
+ghost use Rattle.std.specs.Prelude.{◌≡◌};
+ghost use Rattle.gx_load.specs.declared.load_stop.LoadStop.TheVariants as load_stop;
+
+use gx_rows::NoMemory;
+use std::alloc::{AllocError, AllocFailed};
+
 /// What a cell was refused as.
 #[derive(Clone, Copy, Debug, PartialEq, Eq)]
 pub enum CellKind {
@@ -47,4 +53,28 @@ pub enum LoadStop {
     TooManyRows,
     /// There is no room for the rows.
     NoMemory,
+}
+
+impl From<NoMemory> for LoadStop {
+    ghost from_gives = { λ _ stop. stop ≡ load_stop.NoMemory };
+
+    fn from(_error: NoMemory) -> LoadStop {
+        LoadStop::NoMemory
+    }
+}
+
+impl From<AllocError> for LoadStop {
+    ghost from_gives = { λ _ stop. stop ≡ load_stop.NoMemory };
+
+    fn from(_error: AllocError) -> LoadStop {
+        LoadStop::NoMemory
+    }
+}
+
+impl<T: Drop> From<AllocFailed<T>> for LoadStop {
+    ghost from_gives = { λ _ stop. stop ≡ load_stop.NoMemory };
+
+    fn from(_error: AllocFailed<T>) -> LoadStop {
+        LoadStop::NoMemory
+    }
 }

@@ -1,12 +1,41 @@
 //! Rows of a data file.
 
 ghost use Rattle.std.specs.Prelude.{◌≡◌, ◌<◌, ◌+◌, ◌^◌, ◌⊎◌, length, All};
+ghost use Rattle.gx_rows.specs.declared.value.ValueKind.TheVariants as ValueKind;
 ghost use Rattle.gx_load.specs.Answers.{Gives};
-ghost use Rattle.gx_load.specs.Loading.{loaded};
+ghost use Rattle.gx_load.specs.Loading.{loaded, rows_from};
 
-use crate::{LoadStop};
+use crate::header::Header;
+use crate::records::Records;
+use crate::row_cells::row_of;
+use crate::{LoadStop, RowStop};
+use csv::ByteRecord;
 use gx_rows::{Row, RowType, Vid};
 use std::alloc::Global;
+
+/// The most rows that a data file may have.
+const MOST_ROWS: u32 = 500_000;
+
+// The rows of these records, which come after the header; each is read into `fields` first.
+fn rows_from(
+    alloc: Global,
+    header: &Header,
+    records: &mut Records,
+    fields: &mut ByteRecord,
+) -> Result<Vec<(Vid, Vid, Row)>, LoadStop>
+    ensures { Gives (λ v. v.items) result (rows_from header.now.keys header.now.width header.now.places.items 1 records.old) }
+{
+    let mut rows = Vec::new(alloc);
+    let mut row = 1;
+    'rows: while records.take(fields)? {
+        if row > MOST_ROWS {
+            return Err(LoadStop::TooManyRows);
+        }
+        rows.push(row_of(alloc, header, row, fields)?)?;
+        row += 1;
+    }
+    Ok(rows)
+}
 
 /// The rows of a CSV file under these columns, with `keys` key columns before them: 1 for vertices
 /// (`id`, and 0 for the second key), 2 for edges (`src` and `dst`).
@@ -21,5 +50,11 @@ pub fn rows_of(alloc: Global, bytes: &[u8], keys: u32, columns: &RowType) -> Res
     requires ints { All (λ c. c.1 ≡ ValueKind.Int) columns.now }
     ensures { Gives (λ v. v.items) result (loaded keys columns.now bytes.now) }
 {
-    todo
+    let mut records = Records::of(alloc, bytes);
+    let mut fields = ByteRecord::new(alloc);
+    if !records.take(&mut fields)? {
+        return Err(LoadStop::Data(RowStop::Header(0)));
+    }
+    let header = Header::of(alloc, keys, columns, &fields)?;
+    rows_from(alloc, &header, &mut records, &mut fields)
 }

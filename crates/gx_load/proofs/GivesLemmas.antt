@@ -1,0 +1,37 @@
+-- Answers that stop, and lists made entry by entry.
+use Rattle.std.proofs.Common.{◌≡◌, ◌∙◌, List, [], Result, Ok, Err, refl, sym, ap}
+use Rattle.std.specs.Result.{IsErrAnd}
+use Rattle.gx_rows.specs.Steps.{one_more, with_front, with_front-stop}
+use Rattle.gx_load.specs.Answers.{Gives}
+use Rattle.gx_load.specs.declared.load_stop.LoadStop.{LoadStop}
+use Rattle.gx_load.specs.declared.load_stop.LoadStop.TheVariants as load_stop
+
+-- a stop that is meant
+Gives-stop : {A B : Type 0} (view : A → B) (stop : LoadStop) (meant : Result B LoadStop) → meant ≡ Err stop → Gives view (Err stop) meant
+Gives-stop view load_stop.NoMemory meant e = tt
+Gives-stop view (load_stop.Data stop) meant e = e
+Gives-stop view load_stop.TooManyRows meant e = e
+
+-- the same where it was carried by `?`
+pub Gives-returned : {A B : Type 0} (view : A → B) (answer : Result A LoadStop) (stop : LoadStop) (meant : Result B LoadStop)
+    → IsErrAnd answer (λ e. e ≡ stop) → meant ≡ Err stop → Gives view answer meant
+Gives-returned view (Ok x) stop meant h e = absurd h
+Gives-returned view (Err d) stop meant h e = rw h (Gives-stop view stop meant e)
+
+-- a stop of a part that is the stop of the whole
+Gives-passed : {A B C D : Type 0} (inner : A → B) (outer : C → D) (stop : LoadStop) (part : Result B LoadStop) (whole : Result D LoadStop)
+    → Gives inner (Err stop) part → (part ≡ Err stop → whole ≡ Err stop) → Gives outer (Err stop) whole
+Gives-passed inner outer load_stop.NoMemory part whole given up = tt
+Gives-passed inner outer (load_stop.Data stop) part whole given up = up given
+Gives-passed inner outer load_stop.TooManyRows part whole given up = up given
+
+-- the same where it was carried by `?`
+pub Gives-carried : {A B C D : Type 0} (inner : A → B) (outer : C → D) (answer : Result C LoadStop) (stop : LoadStop) (part : Result B LoadStop) (whole : Result D LoadStop)
+    → IsErrAnd answer (λ e. e ≡ stop) → Gives inner (Err stop) part → (part ≡ Err stop → whole ≡ Err stop) → Gives outer answer whole
+Gives-carried inner outer (Ok x) stop part whole h given up = absurd h
+Gives-carried inner outer (Err d) stop part whole h given up = rw h (Gives-passed inner outer stop part whole given up)
+
+-- before any entry
+pub with_front-none : {A E : Type 0} (rest : Result (List A) E) → with_front [] rest ≡ rest
+with_front-none (Ok xs) = refl
+with_front-none (Err e) = refl
