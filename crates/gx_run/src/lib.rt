@@ -1,13 +1,13 @@
-// A library with one function.
+//! The top call: a whole run of `gx`, from its words to the bytes that it writes.
+//!
+//! `run` reads the script that the words name, loads its data file and writes the text of its table.
+//! What a run comes to is defined in `specs/Meaning.antt` over plain lists, and a clause of `run` says
+//! that the answer and the bytes written are just that. The crate stands on `gx_rows`, `gx_outside`,
+//! `gx_load`, `csv` and `itoa`; the program `gx` calls it.
 #![tactic(auto)]
 
-ghost use Rattle.std.specs.Prelude.{◌≡◌};
-ghost use Rattle.gx_run.specs.Echo.{echo_of};
+mod status;
+mod table;
+mod text;
 
-// The `ensures` clause is the contract: what `echo` returns is `echo_of` of its argument, a definition
-// in `specs/Echo.antt`, which a caller's clause can cite too.
-pub fn echo(x: usize) -> usize
-    ensures { result ≡ echo_of x }
-{
-    x
-}
+pub use status::{DataStop, ScriptStop, Status, SyntaxKind};
