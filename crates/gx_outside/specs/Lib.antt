@@ -1,2 +1,5 @@
+pub mod Calls
 pub mod Faults
 pub mod Held
+pub mod MemSinks
+pub mod Parts

@@ -7,16 +7,15 @@
 //! stand in the program.
 #![tactic(auto)]
 
+mod calls;
 mod failed;
 mod files;
-mod mem_files;
 mod mem_sink;
 mod sink;
 mod writing;
 
 pub use failed::Failed;
 pub use files::Files;
-pub use mem_files::MemFiles;
 pub use mem_sink::MemSink;
 pub use sink::Sink;
 pub use writing::write_all;

@@ -6,8 +6,12 @@
 //! `gx_load`, `csv` and `itoa`; the program `gx` calls it.
 #![tactic(auto)]
 
+mod printing;
+mod script;
 mod status;
 mod table;
 mod text;
+mod top;
 
 pub use status::{DataStop, ScriptStop, Status, SyntaxKind};
+pub use top::run;

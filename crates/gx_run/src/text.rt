@@ -6,6 +6,7 @@ ghost use Rattle.csv.specs.Records.{fields_of, partial_of};
 ghost use Rattle.csv.specs.Writing.{default_writer, row_text};
 ghost use Rattle.gx_rows.specs.Columns.{names_of};
 ghost use Rattle.gx_run.specs.Lines.{IsBetweenLines, text_so_far};
+ghost use Rattle.gx_run.specs.Tables.{entries_of};
 ghost use Rattle.gx_run.specs.Texts.{entry_line, header_line, table_text, value_text};
 
 use csv::{ByteRecord, Writer, WriterBuilder};
@@ -13,18 +14,18 @@ use gx_rows::{NoMemory, Row, RowType, Value, Vid};
 use itoa::Buffer;
 use std::alloc::Global;
 
-/// The text of a table under these columns: a header line, and a line for each entry.
+/// The text of a table's rows under these columns: a header line, and a line for each row.
 pub(crate) fn text_of(
     alloc: Global,
     columns: &RowType,
-    table: &[(Vid, Row)],
+    rows: &[(Vid, Vid, Row)],
 ) -> Result<Vec<u8>, NoMemory>
-    ensures { IfOk result (λ text. text.items ≡ table_text columns.now table.now) }
+    ensures { IfOk result (λ text. text.items ≡ table_text columns.now (entries_of rows.now)) }
 {
     let mut writer = WriterBuilder::new().from_writer(Vec::new(alloc));
     let mut record = ByteRecord::new(alloc);
     write_header(&mut writer, &mut record, columns)?;
-    for (id, row) in table {
+    for (id, _, row) in rows {
         write_entry(&mut writer, &mut record, *id, row)?;
     }
     writer.into_inner().map_err(|_| NoMemory)

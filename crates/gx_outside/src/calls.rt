@@ -1,0 +1,65 @@
+//! The calls of a source or a sink in memory, of which some fail.
+
+ghost use Rattle.std.specs.Prelude.{◌≡◌, ◌≤◌};
+ghost use Rattle.gx_outside.specs.Calls.{no_calls, next_count, fails_next, called};
+
+use std::marker::Model;
+
+/// How many calls were made and how many faults they met, beside the numbers of the calls that
+/// fail. Both counts stand still at the last number of `u64`.
+#[derive(Debug, Drop)]
+pub(crate) struct Calls {
+    failing: Vec<u64>,
+    made: u64,
+    faults: u64,
+}
+
+impl Model for Calls {
+    ghost use Rattle.gx_outside.specs.Calls.{CallCounts};
+
+    ghost Value = { CallCounts };
+
+    ghost view = { λ c. record { failing = c.failing.items; calls = c.made; faults = c.faults } };
+}
+
+impl Calls {
+    /// No call so far. The calls of these numbers, counted from 0, will fail.
+    pub(crate) fn of(failing: Vec<u64>) -> Calls
+        ensures { result ≡ no_calls failing.items }
+    {
+        Calls {
+            failing,
+            made: 0,
+            faults: 0,
+        }
+    }
+
+    /// The number of the next call.
+    pub(crate) fn number(&self) -> u64
+        ensures { result ≡ self.now.calls }
+    {
+        self.made
+    }
+
+    /// Counts a call, and says whether it fails by its number. That is a fault, which is counted.
+    pub(crate) fn falters(&mut self) -> bool
+        ensures fails { result ≡ fails_next self.old }
+        ensures after { self.new ≡ called self.old }
+        ensures later { self.old.faults ≤ self.new.faults }
+    {
+        let fails = self.failing.contains(&self.made);
+        self.made = self.made.saturating_add(1);
+        if fails {
+            self.faults = self.faults.saturating_add(1);
+        }
+        fails
+    }
+
+    /// Counts a fault of the last call, which did not fail by its number.
+    pub(crate) fn add_fault(&mut self)
+        ensures after { self.new ≡ record self.old { faults = next_count self.old.faults } }
+        ensures later { self.old.faults ≤ self.new.faults }
+    {
+        self.faults = self.faults.saturating_add(1);
+    }
+}

@@ -1,0 +1,122 @@
+//! A sink in memory.
+
+ghost use Rattle.std.specs.Prelude.{◌≡◌, ◌≤◌, ◌<◌, length, Some, slice_get, IfOk, IsOk, OnOk, OnErr, is_err};
+ghost use Rattle.std.specs.Option.{unwrap_or};
+ghost use Rattle.std.specs.List.{All};
+ghost use Rattle.std.specs.Io.KnownBytes.{WriteAppends};
+ghost use Rattle.gx_outside.specs.Faults.{HasCause};
+ghost use Rattle.gx_outside.specs.MemSinks.{empty_sink, fails_write, taken, after_write, after_failed_write};
+
+use crate::calls::Calls;
+use crate::{Failed, Sink};
+use gx_rows::NoMemory;
+use std::alloc::Global;
+use std::marker::Model;
+
+/// A sink that keeps the bytes in memory, takes each write in part and fails where it was told to.
+/// Contracts see its bytes, its room, the most that each write takes, and its counts.
+#[derive(Debug, Drop)]
+pub struct MemSink {
+    bytes: Vec<u8>,
+    room: usize,
+    pieces: Vec<usize>,
+    calls: Calls,
+}
+
+impl Model for MemSink {
+    ghost use Rattle.std.specs.Prelude.{◌≤◌, ◌+◌, vec_len, vec_capacity};
+    ghost use Rattle.std.specs.List.{All};
+    ghost use Rattle.gx_outside.specs.MemSinks.{SinkState};
+
+    ghost Value = { SinkState };
+
+    ghost view = { λ s. record {
+      bytes = s.bytes.items;
+      room = s.room;
+      pieces = s.pieces.items;
+      counts = s.calls;
+    } };
+
+    ghost invariant = { λ s.
+        (vec_len s.bytes + s.room ≤ vec_capacity s.bytes) × All (λ n. 1 ≤ n) s.pieces.items };
+}
+
+impl MemSink {
+    /// An empty sink with room for `room` bytes. Its write of number `i`, counted from 0, takes at
+    /// most `pieces[i]` bytes, or all past the end of `pieces`, and fails where `failing` has `i`.
+    /// All memory that it needs is taken here.
+    ///
+    /// # Errors
+    ///
+    /// `NoMemory` where there is no memory for `room` bytes.
+    pub fn of(
+        alloc: Global,
+        pieces: Vec<usize>,
+        failing: Vec<u64>,
+        room: usize,
+    ) -> Result<MemSink, NoMemory>
+        requires { All (λ n. 1 ≤ n) pieces.items }
+        ensures empty { IfOk result (λ s. s ≡ empty_sink pieces.items failing.items room) }
+        ensures none { room ≡ 0 → IsOk result }
+    {
+        Ok(MemSink {
+            bytes: Vec::with_capacity(alloc, room)?,
+            room,
+            pieces,
+            calls: Calls::of(failing),
+        })
+    }
+
+    /// The bytes written so far.
+    pub fn bytes(&self) -> &[u8]
+        ensures { result.now ≡ self.now.bytes }
+    {
+        self.bytes.as_slice()
+    }
+}
+
+impl Sink for MemSink {
+    ghost written = { λ s. Some s.bytes };
+
+    ghost faults = { λ s. s.counts.faults };
+
+    /// Takes as many bytes from the front of `piece` as this write takes and there is room for.
+    ///
+    /// # Errors
+    ///
+    /// `Failed` where this write was to fail, or there is no room for any byte of a piece that is
+    /// not empty. Both are faults and are counted.
+    fn write(&mut self, piece: &[u8]) -> Result<usize, Failed>
+        ensures later { self.old.counts.faults ≤ self.new.counts.faults }
+        ensures bound { IfOk result (λ n. n ≤ length piece.now) }
+        ensures some { IfOk result (λ n. 0 < length piece.now → 0 < n) }
+        ensures bytes { WriteAppends (Some self.old.bytes) (Some self.new.bytes) result piece.now }
+        ensures cause { HasCause self.old.counts.faults self.new.counts.faults result }
+        ensures fails { is_err result ≡ fails_write self.old piece.now }
+        ensures count { IfOk result (λ n. n ≡ taken self.old piece.now) }
+        ensures after { OnOk result (self.new ≡ after_write self.old piece.now) }
+        ensures after_failed { OnErr result (self.new ≡ after_failed_write self.old) }
+    {
+        let most = entry_or(&self.pieces, self.calls.number(), piece.len());
+        if self.calls.falters() {
+            return Err(Failed);
+        }
+        if !piece.is_empty() && self.room == 0 {
+            self.calls.add_fault();
+            return Err(Failed);
+        }
+        let count = most.min(piece.len()).min(self.room);
+        self.bytes.extend_from_slice(&piece[..count]).unwrap();
+        self.room -= count;
+        Ok(count)
+    }
+}
+
+/// The entry of this number, counted from 0, or `other` past the end.
+fn entry_or(pieces: &[usize], number: u64, other: usize) -> usize
+    requires { All (λ n. 1 ≤ n) pieces.now }
+    ensures value { result ≡ unwrap_or (slice_get pieces.now number) other }
+    ensures some { 0 < other → 0 < result }
+{
+    pieces.get(number as usize).copied().unwrap_or(other)
+}
