@@ -1,4 +1,8 @@
-pub mod Utf8
 pub mod ColumnSteps
 pub mod DistinctNames
+pub mod Keys
+pub mod Ordered
+pub mod TableLemmas
+pub mod Takes
+pub mod Utf8
 pub mod Whole

@@ -1,2 +1,9 @@
-pub mod Spelling
+pub mod Answers
+pub mod Codes
+pub mod Lines
+pub mod Meaning
 pub mod Scripts
+pub mod Spelling
+pub mod Tables
+pub mod Texts
+pub mod Words

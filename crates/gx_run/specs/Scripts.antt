@@ -50,8 +50,8 @@ load_at text = do
   Some (name.0, file.0, rest)
 
 -- `; print table NAME ;` and no more: the name
-unfoldable pub printed : List ℕ → Option (List ℕ)
-printed text = do
+unfoldable pub print_at : List ℕ → Option (List ℕ)
+print_at text = do
   loaded ← symbol_at 59 text
   verb ← keyword_at (codes "print") loaded
   kind ← keyword_at (codes "table") verb
@@ -64,5 +64,5 @@ unfoldable pub script_of : List ℕ → Option Form
 script_of text = do
   load ← load_at text
   columns ← columns_at MOST_COLUMNS load.2
-  name ← printed columns.1
+  name ← print_at columns.1
   if bytes_eq name load.0 && are_distinct columns.0 then Some (record { file = load.1; columns = map int_column columns.0 }) else None

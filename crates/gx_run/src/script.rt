@@ -2,7 +2,7 @@
 
 ghost use Rattle.std.specs.Prelude.{◌≡◌, ◌==◌, ◌≤◌, All, IfOk, IfSome, length, option_map};
 ghost use Rattle.std.specs.Option.{option_copied};
-ghost use Rattle.gx_run.specs.Scripts.{load_at, printed, script_of};
+ghost use Rattle.gx_run.specs.Scripts.{load_at, print_at, script_of};
 ghost use Rattle.gx_run.specs.Spelling.{skip_space};
 ghost use Rattle.gx_rows.specs.declared.value.ValueKind.TheVariants as ValueKind;
 
@@ -43,9 +43,9 @@ fn is_blank(text: &[u8]) -> bool
 }
 
 /// The name of the table that a script prints, where its second statement is all that is left.
-#[tactic(auto, unfolding(crate::specs::Scripts::printed))]
-fn printed(text: &[u8]) -> Option<&str>
-    ensures { option_copied result ≡ printed text.now }
+#[tactic(auto, unfolding(crate::specs::Scripts::print_at))]
+fn print_at(text: &[u8]) -> Option<&str>
+    ensures { option_copied result ≡ print_at text.now }
 {
     let rest = keyword("table", keyword("print", symbol(b';', text)?)?)?;
     let (name, rest) = word(rest)?;
@@ -70,7 +70,7 @@ pub(crate) fn form_of(alloc: Global, text: &[u8]) -> Result<Option<Form>, NoMemo
     let Some((columns, rest)) = columns(alloc, load.rest)? else {
         return Ok(None);
     };
-    let Some(table) = printed(rest) else {
+    let Some(table) = print_at(rest) else {
         return Ok(None);
     };
     if table != load.table {

@@ -1,0 +1,82 @@
+//! Real files.
+
+ghost use Rattle.std.specs.Prelude.{◌≡◌, ◌≤◌, None, is_some};
+ghost use Rattle.std.proofs.Common.{rules};
+ghost use Rattle.gx_outside.specs.Faults.{Rose};
+
+use gx_outside::{Failed, Files};
+use std::fs;
+use std::io::Read;
+use std::rt;
+
+/// The files that the operating system has, by their paths. It tells nothing of what they hold, and
+/// counts its faults, an absent file among them.
+#[derive(Drop)]
+pub(crate) struct DiskFiles<'a, R: rt::Files>
+where
+    R::File: Drop,
+{
+    rt: &'a R,
+    open_file: Option<R::File>,
+    faults: u64,
+}
+
+impl<'a, R: rt::Files> DiskFiles<'a, R>
+where
+    R::File: Drop,
+{
+    /// All files of the system, none open.
+    pub(crate) fn new(rt: &'a R) -> Self {
+        DiskFiles {
+            rt,
+            open_file: None,
+            faults: 0,
+        }
+    }
+
+    // Counts a fault.
+    fn fault(&mut self) -> Failed
+        ensures counted { Rose self.old.faults self.new.faults }
+        ensures later { self.old.faults ≤ self.new.faults }
+        ensures kept { self.new.open_file ≡ self.old.open_file }
+    {
+        self.faults = self.faults.saturating_add(1);
+        Failed
+    }
+}
+
+impl<R: rt::Files> Files for DiskFiles<'_, R>
+where
+    R::File: Drop,
+{
+    ghost held = { λ _. None };
+
+    ghost left = { λ _. None };
+
+    ghost is_open = { λ s. is_some s.open_file };
+
+    ghost faults = { λ s. s.faults };
+
+    ghost tells_rest = { Prim.search rules };
+
+    fn open(&mut self, name: &str) -> Result<(), Failed> {
+        self.open_file = None;
+        match fs::open(self.rt, name) {
+            Ok(file) => {
+                self.open_file = Some(file);
+                Ok(())
+            }
+            Err(_) => Err(self.fault()),
+        }
+    }
+
+    fn read(&mut self, buf: &mut [u8]) -> Result<usize, Failed> {
+        match &mut self.open_file {
+            Some(file) => match file.read(buf) {
+                Ok(count) => Ok(count),
+                Err(_) => Err(self.fault()),
+            },
+            None => unreachable!(),
+        }
+    }
+}

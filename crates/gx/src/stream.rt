@@ -1,0 +1,37 @@
+//! Real streams.
+
+ghost use Rattle.std.specs.Prelude.{None};
+
+use gx_outside::{Failed, Sink};
+use std::io::Write;
+
+/// A stream of the process, as its standard output. It tells nothing of what was written, and counts
+/// its faults, a write that takes nothing among them.
+#[derive(Drop)]
+pub(crate) struct Stream<W: Write + Drop> {
+    writer: W,
+    faults: u64,
+}
+
+impl<W: Write + Drop> Stream<W> {
+    /// The stream, before any write.
+    pub(crate) fn new(writer: W) -> Self {
+        Stream { writer, faults: 0 }
+    }
+}
+
+impl<W: Write + Drop> Sink for Stream<W> {
+    ghost written = { λ _. None };
+
+    ghost faults = { λ s. s.faults };
+
+    fn write(&mut self, piece: &[u8]) -> Result<usize, Failed> {
+        match self.writer.write(piece) {
+            Ok(count) if count > 0 || piece.is_empty() => Ok(count),
+            _ => {
+                self.faults = self.faults.saturating_add(1);
+                Err(Failed)
+            }
+        }
+    }
+}

@@ -1,0 +1,109 @@
+//! The text of a table.
+
+ghost use Rattle.std.specs.Prelude.{◌≡◌, ◌∷◌, ◌++◌, [], IfOk, OnOk, length, map, codes};
+ghost use Rattle.std.specs.Fmt.{signed_decimal};
+ghost use Rattle.csv.specs.Records.{fields_of, partial_of};
+ghost use Rattle.csv.specs.Writing.{default_writer, row_text};
+ghost use Rattle.gx_rows.specs.Columns.{names_of};
+ghost use Rattle.gx_run.specs.Lines.{IsBetweenLines, text_so_far};
+ghost use Rattle.gx_run.specs.Tables.{entries_of};
+ghost use Rattle.gx_run.specs.Texts.{entry_line, header_line, table_text, value_text};
+
+use csv::{ByteRecord, Writer, WriterBuilder};
+use gx_rows::{NoMemory, Row, RowType, Value, Vid};
+use itoa::Buffer;
+use std::alloc::Global;
+
+/// The text of a table's rows under these columns: a header line, and a line for each row.
+pub(crate) fn text_of(
+    alloc: Global,
+    columns: &RowType,
+    rows: &[(Vid, Vid, Row)],
+) -> Result<Vec<u8>, NoMemory>
+    ensures { IfOk result (λ text. text.items ≡ table_text columns.now (entries_of rows.now)) }
+{
+    let mut writer = WriterBuilder::new().from_writer(Vec::new(alloc));
+    let mut record = ByteRecord::new(alloc);
+    write_header(&mut writer, &mut record, columns)?;
+    for (id, _, row) in rows {
+        write_entry(&mut writer, &mut record, *id, row)?;
+    }
+    writer.into_inner().map_err(|_| NoMemory)
+}
+
+// Writes the header line. The record is made anew.
+#[tactic(auto, unfolding(crate::specs::Texts::header_line))]
+fn write_header(
+    writer: &mut Writer<Vec<u8>>,
+    record: &mut ByteRecord,
+    columns: &RowType,
+) -> Result<(), NoMemory>
+    requires { IsBetweenLines writer.old }
+    ensures between { OnOk result (IsBetweenLines writer.new) }
+    ensures text { OnOk result (text_so_far writer.new ≡ text_so_far writer.old ++ header_line columns.now) }
+{
+    put_header(record, columns)?;
+    write_line(writer, record)
+}
+
+// Writes the line of an entry. The record is made anew.
+#[tactic(auto, unfolding(crate::specs::Texts::entry_line))]
+fn write_entry(
+    writer: &mut Writer<Vec<u8>>,
+    record: &mut ByteRecord,
+    id: Vid,
+    row: &Row,
+) -> Result<(), NoMemory>
+    requires { IsBetweenLines writer.old }
+    ensures between { OnOk result (IsBetweenLines writer.new) }
+    ensures text { OnOk result (text_so_far writer.new ≡ text_so_far writer.old ++ entry_line (id, row.now)) }
+{
+    put_entry(record, id, row)?;
+    write_line(writer, record)
+}
+
+// Makes the record of the header.
+fn put_header(record: &mut ByteRecord, columns: &RowType) -> Result<(), NoMemory>
+    ensures { OnOk result (fields_of record.new ≡ codes "id" ∷ names_of columns.now) }
+{
+    record.clear();
+    record.push_field(b"id")?;
+    for i in 0..columns.len() {
+        record.push_field(columns.name(i).as_bytes())?;
+    }
+    Ok(())
+}
+
+// Makes the record of an entry.
+fn put_entry(record: &mut ByteRecord, id: Vid, row: &Row) -> Result<(), NoMemory>
+    ensures { OnOk result (fields_of record.new ≡ signed_decimal id.0 ∷ map value_text row.now) }
+{
+    record.clear();
+    push_int(record, id.0)?;
+    for value in row.as_slice() {
+        match value {
+            Value::Int(number) => push_int(record, *number)?,
+        }
+    }
+    Ok(())
+}
+
+// Adds the decimal text of a number to a record.
+fn push_int(record: &mut ByteRecord, number: i64) -> Result<(), NoMemory>
+    requires { partial_of record.old ≡ [] }
+    ensures fields { OnOk result (fields_of record.new ≡ fields_of record.old ++ signed_decimal number ∷ []) }
+    ensures partial { OnOk result (partial_of record.new ≡ []) }
+{
+    let mut buffer = Buffer::new();
+    record.push_field(buffer.format(number).as_bytes())?;
+    Ok(())
+}
+
+// Writes a record as a line.
+fn write_line(writer: &mut Writer<Vec<u8>>, record: &ByteRecord) -> Result<(), NoMemory>
+    requires { IsBetweenLines writer.old }
+    ensures between { OnOk result (IsBetweenLines writer.new) }
+    ensures text { OnOk result (text_so_far writer.new ≡ text_so_far writer.old ++ row_text default_writer (fields_of record.now)) }
+{
+    writer.write_byte_record(record).map_err(|_| NoMemory)
+}
