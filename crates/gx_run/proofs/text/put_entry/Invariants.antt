@@ -8,4 +8,5 @@ use Rattle.gx_run.proofs.text.put_entry.Given as goal
 abbrev pub invariant-loop-value : goal.invariant-loop-value
 invariant-loop-value l = record {
   fields : fields_of l.record ≡ signed_decimal l.fn.id.0 ∷ map value_text (take l.value-index l.row);
-  whole : partial_of l.record ≡ [] }
+  whole : partial_of l.record ≡ [];
+}

@@ -8,4 +8,5 @@ use Rattle.gx_run.proofs.text.put_header.Given as goal
 abbrev pub invariant-loop-i : goal.invariant-loop-i
 invariant-loop-i l = record {
   fields : fields_of l.record ≡ codes "id" ∷ take l.i (names_of l.columns);
-  whole : partial_of l.record ≡ [] }
+  whole : partial_of l.record ≡ [];
+}
