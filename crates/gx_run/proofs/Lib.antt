@@ -1,4 +1,4 @@
 pub mod Utf8
 pub mod ColumnSteps
 pub mod DistinctNames
-pub mod Whole
+pub mod WholeScript
