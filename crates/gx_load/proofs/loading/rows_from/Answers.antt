@@ -30,4 +30,4 @@ rows-preserved c =
 pub returns : goal.returns
 returns c =
     rows_from-done c.rows.rows.items c.args.header.now.keys c.args.header.now.width c.args.header.now.places.items c.rows.row
-    c.rows.records _ (rw c.if-branch.false at c.in_ok-take.ensures) c.rows.invariant.so_far
+    c.rows.records _ (rw c.if-branch.false at c.in_ok-take.ensures).0 c.rows.invariant.so_far
