@@ -49,6 +49,8 @@ unfolding number_of
 number_of-parsed text (Ok z) h = rw (numeral_back _ h.0.0, fits_back _ h.0.1, h.1) refl
 number_of-parsed text (Err e) h = sym (no_number text h)
 
+pub ruleset parsing = (number_of-parsed)
+
 -- a byte before ASCII is ASCII
 longer : (c : ℕ) (cs : List ℕ) → c < 128 → IsAscii cs → IsAscii (c ∷ cs)
 longer c cs low rest zero = low
