@@ -11,37 +11,20 @@ use std::test::Fail;
 // The script that most cases run.
 const AGES: &str = "vertices a from \"ages.csv\" (age: int); print table a;";
 
-// A run of `run s.gx` over the files `s.gx` and `ages.csv`, and how it must end.
+// What fails in a run: the opens and reads with this number, the write with this number, and the
+// most bytes that the first write takes; 0 where it takes all.
 #[derive(Clone, Copy)]
-struct Case {
-    script: &'static str,
-    data: &'static str,
-    // The most bytes that the first write takes; 0 where it takes all.
+struct Faults {
+    read: Option<u64>,
+    write: Option<u64>,
     piece: usize,
-    failing_read: Option<u64>,
-    failing_write: Option<u64>,
-    out: &'static str,
-    // The status, with what it carries.
-    end: &'static str,
 }
 
-// A case in which nothing fails.
-fn plain(script: &'static str, data: &'static str, out: &'static str, end: &'static str) -> Case {
-    Case {
-        script,
-        data,
-        piece: 0,
-        failing_read: None,
-        failing_write: None,
-        out,
-        end,
-    }
-}
-
-// A case in which nothing fails and the script is `AGES`.
-fn loads(data: &'static str, out: &'static str, end: &'static str) -> Case {
-    plain(AGES, data, out, end)
-}
+const NONE: Faults = Faults {
+    read: None,
+    write: None,
+    piece: 0,
+};
 
 fn list_of<T>(alloc: Global, item: Option<T>) -> Result<Vec<T>, AllocError>
 where
@@ -73,17 +56,20 @@ fn words_of(alloc: Global, words: &[&str]) -> Result<Vec<String>, AllocError> {
     Ok(owned)
 }
 
-fn files_of(alloc: Global, case: &Case) -> Result<MemFiles, AllocError> {
+// The files `s.gx` and `ages.csv`.
+fn files_of(
+    alloc: Global,
+    script: Vec<u8>,
+    data: Vec<u8>,
+    piece: usize,
+    failing: Option<u64>,
+) -> Result<MemFiles, AllocError>
+    requires { 1 ≤ piece }
+{
     let mut files = Vec::new(alloc);
-    files.push((
-        String::from_str(alloc, "s.gx")?,
-        Vec::from_slice(alloc, case.script.as_bytes())?,
-    ))?;
-    files.push((
-        String::from_str(alloc, "ages.csv")?,
-        Vec::from_slice(alloc, case.data.as_bytes())?,
-    ))?;
-    Ok(MemFiles::of(files, 7, list_of(alloc, case.failing_read)?))
+    files.push((String::from_str(alloc, "s.gx")?, script))?;
+    files.push((String::from_str(alloc, "ages.csv")?, data))?;
+    Ok(MemFiles::of(files, piece, list_of(alloc, failing)?))
 }
 
 // The status as a text, with what it carries.
@@ -118,96 +104,97 @@ fn data_end(alloc: Global, code: u8, stop: &DataStop) -> Result<String, AllocErr
     }
 }
 
-// Runs a case and says what was written and how it ended.
-fn run_case(alloc: Global, case: &Case) -> Result<(String, String), Fail> {
+// Runs `run s.gx` over this script and this file `ages.csv`: what was written, and the end.
+fn outcome(
+    alloc: Global,
+    script: &str,
+    data: &str,
+    faults: Faults,
+) -> Result<(String, String), Fail> {
     let words = words_of(alloc, &["run", "s.gx"])?;
-    let mut files = files_of(alloc, case)?;
-    let mut out = MemSink::of(
-        alloc,
-        pieces_of(alloc, case.piece)?,
-        list_of(alloc, case.failing_write)?,
-        100,
-    )?;
+    let script = Vec::from_slice(alloc, script.as_bytes())?;
+    let data = Vec::from_slice(alloc, data.as_bytes())?;
+    let mut files = files_of(alloc, script, data, 7, faults.read)?;
+    let pieces = pieces_of(alloc, faults.piece)?;
+    let mut out = MemSink::of(alloc, pieces, list_of(alloc, faults.write)?, 100)?;
     let mut err = MemSink::of(alloc, Vec::new(alloc), Vec::new(alloc), 0)?;
     let status = run(alloc, words.as_slice(), &mut files, &mut out, &mut err);
-    let written = str::from_utf8(out.bytes())?;
-    Ok((String::from_str(alloc, written)?, end_of(alloc, &status)?))
+    let written = String::from_str(alloc, str::from_utf8(out.bytes())?)?;
+    Ok((written, end_of(alloc, &status)?))
 }
 
 #[test]
-fn each_run_ends_as_it_must(rt: HostRuntime) -> Result<(), Fail> {
-    let first = loads("id,age\n3,30\n1,25\n1,26\n", "id,age\n1,25\n3,30\n", "0");
-    let two = "vertices p from \"ages.csv\" (b: int, a: int); print table p;";
+fn tables_of_one_column(rt: HostRuntime) -> Result<(), Fail> {
     let cases = [
         // The first row of a repeated identifier is kept, and rows are ordered by identifier.
-        first,
-        loads("id,age\n", "id,age\n", "0"),
-        // The sink takes 4 bytes and then fails.
-        Case {
-            piece: 4,
-            failing_write: Some(1),
-            out: "id,a",
-            end: "5 sink",
-            ..first
-        },
-        // The script cannot be opened; the data file cannot.
-        Case {
-            failing_read: Some(0),
-            out: "",
-            end: "4 source s.gx",
-            ..first
-        },
-        plain(
-            "vertices a from \"none.csv\" (age: int); print table a;",
-            "id,age\n",
-            "",
-            "4 source none.csv",
-        ),
-        // The first refused place, and the columns by their names.
-        loads("id,age\n1,x\n", "", "1 ages.csv: row 1 age"),
-        loads("id,age\n1,2\ny,3\n", "", "1 ages.csv: row 2 id"),
-        loads("id,age\n3\n", "", "1 ages.csv: row 1 shape"),
-        loads("key,age\n3,30\n", "", "1 ages.csv: id missing"),
-        loads("id,years\n3,30\n", "", "1 ages.csv: age missing"),
-        loads("", "", "1 ages.csv: id missing"),
-        plain(two, "a,x,id,b\n1,9,5,2\n", "id,b,a\n5,2,1\n", "0"),
-        plain(two, "a,id\n1,5\n", "", "1 ages.csv: b missing"),
+        ("id,age\n3,30\n1,25\n1,26\n", "id,age\n1,25\n3,30\n", "0"),
+        ("id,age\n", "id,age\n", "0"),
+        // The first refused place.
+        ("id,age\n1,x\n", "", "1 ages.csv: row 1 age"),
+        ("id,age\n1,2\ny,3\n", "", "1 ages.csv: row 2 id"),
+        ("id,age\n3\n", "", "1 ages.csv: row 1 shape"),
+        ("key,age\n3,30\n", "", "1 ages.csv: id missing"),
+        ("id,years\n3,30\n", "", "1 ages.csv: age missing"),
+        ("", "", "1 ages.csv: id missing"),
         // The least and the greatest numbers, and their neighbours.
-        loads(
+        (
             "id,age\n-9223372036854775808,+9223372036854775807\n",
             "id,age\n-9223372036854775808,9223372036854775807\n",
             "0",
         ),
-        loads(
+        (
             "id,age\n1,9223372036854775808\n",
             "",
             "1 ages.csv: row 1 age",
         ),
-        loads(
+        (
             "id,age\n1,-9223372036854775809\n",
             "",
             "1 ages.csv: row 1 age",
         ),
-        // Scripts outside the form.
-        plain("", "id,age\n", "", "1 script 0"),
-        plain("print table a;", "id,age\n", "", "1 script 0"),
     ];
-    for case in &cases {
-        let (out, end) = run_case(rt.alloc(), case)?;
-        assert_eq!(rt;
-            out.as_str(),
-            case.out,
-            "{} over {:?}",
-            case.script,
-            case.data
-        );
-        assert_eq!(rt;
-            end.as_str(),
-            case.end,
-            "{} over {:?}",
-            case.script,
-            case.data
-        );
+    for (data, out, end) in cases {
+        let (written, ended) = outcome(rt.alloc(), AGES, data, NONE)?;
+        assert_eq!(rt; written.as_str(), out, "over {data:?}");
+        assert_eq!(rt; ended.as_str(), end, "over {data:?}");
+    }
+    Ok(())
+}
+
+#[test]
+fn other_scripts(rt: HostRuntime) -> Result<(), Fail> {
+    let two = "vertices p from \"ages.csv\" (b: int, a: int); print table p;";
+    let absent = "vertices a from \"none.csv\" (age: int); print table a;";
+    let cases = [
+        // Columns go by their names, in the order of the script.
+        (two, "a,x,id,b\n1,9,5,2\n", "id,b,a\n5,2,1\n", "0"),
+        (two, "a,id\n1,5\n", "", "1 ages.csv: b missing"),
+        (absent, "id,age\n", "", "4 source none.csv"),
+        ("", "id,age\n", "", "1 script 0"),
+        ("print table a;", "id,age\n", "", "1 script 0"),
+    ];
+    for (script, data, out, end) in cases {
+        let (written, ended) = outcome(rt.alloc(), script, data, NONE)?;
+        assert_eq!(rt; written.as_str(), out, "of {script}");
+        assert_eq!(rt; ended.as_str(), end, "of {script}");
+    }
+    Ok(())
+}
+
+#[test]
+fn failing_devices(rt: HostRuntime) -> Result<(), Fail> {
+    let data = "id,age\n3,30\n1,25\n1,26\n";
+    let cases = [
+        // The sink takes 4 bytes and then fails; the script, then the data file, cannot be opened.
+        (None, Some(1u64), 4usize, "id,a", "5 sink"),
+        (Some(0u64), None, 0, "", "4 source s.gx"),
+        (Some(10), None, 0, "", "4 source ages.csv"),
+    ];
+    for (read, write, piece, out, end) in cases {
+        let faults = Faults { read, write, piece };
+        let (written, ended) = outcome(rt.alloc(), AGES, data, faults)?;
+        assert_eq!(rt; written.as_str(), out);
+        assert_eq!(rt; ended.as_str(), end);
     }
     Ok(())
 }
@@ -248,13 +235,18 @@ fn repeated(alloc: Global, front: &str, piece: &str, times: usize) -> Result<Vec
     Ok(text)
 }
 
+// `front`, then this byte as often as `times` says.
+fn padded(alloc: Global, front: &str, byte: u8, times: usize) -> Result<Vec<u8>, AllocError> {
+    let mut text = Vec::from_slice(alloc, front.as_bytes())?;
+    let padding = vec![in alloc; byte; times]?;
+    text.extend_from_slice(padding.as_slice())?;
+    Ok(text)
+}
+
 // Runs a script over a data file, both of bytes.
 fn end_of_files(alloc: Global, script: Vec<u8>, data: Vec<u8>) -> Result<String, Fail> {
     let words = words_of(alloc, &["run", "s.gx"])?;
-    let mut files = Vec::new(alloc);
-    files.push((String::from_str(alloc, "s.gx")?, script))?;
-    files.push((String::from_str(alloc, "ages.csv")?, data))?;
-    let mut files = MemFiles::of(files, 65_536, Vec::new(alloc));
+    let mut files = files_of(alloc, script, data, 1_048_576, None)?;
     let mut out = MemSink::of(alloc, Vec::new(alloc), Vec::new(alloc), 100)?;
     let mut err = MemSink::of(alloc, Vec::new(alloc), Vec::new(alloc), 0)?;
     let status = run(alloc, words.as_slice(), &mut files, &mut out, &mut err);
@@ -273,11 +265,11 @@ fn limits_stand_at_their_numbers(rt: HostRuntime) -> Result<(), Fail> {
         (0, 0, 500_000, "0"),
         (0, 0, 500_001, "3 limit FileRows"),
     ];
-    for (script_spaces, header_bytes, rows, end) in cases {
-        let script = repeated(alloc, AGES, " ", script_spaces)?;
+    for (spaces, header_bytes, rows, end) in cases {
+        let script = padded(alloc, AGES, b' ', spaces)?;
         let data = match header_bytes {
             0 => repeated(alloc, "id,age\n", "1,2\n", rows)?,
-            _ => repeated(alloc, "id,age,", "x", header_bytes)?,
+            _ => padded(alloc, "id,age,", b'x', header_bytes)?,
         };
         assert_eq!(rt; end_of_files(alloc, script, data)?.as_str(), end);
     }
