@@ -13,6 +13,7 @@ mod loading;
 mod read_stop;
 mod reading;
 mod records;
+mod row_cells;
 
 pub use load_stop::{CellKind, LoadStop, RowStop};
 pub use loading::rows_of;
