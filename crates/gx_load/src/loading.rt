@@ -43,7 +43,12 @@ fn rows_from(
 /// # Errors
 ///
 /// `Data` with the first refused place, `TooManyRows` past 500,000 rows, `NoMemory`.
-pub fn rows_of(alloc: Global, bytes: &[u8], keys: u32, columns: &RowType) -> Result<Vec<(Vid, Vid, Row)>, LoadStop>
+pub fn rows_of(
+    alloc: Global,
+    bytes: &[u8],
+    keys: u32,
+    columns: &RowType,
+) -> Result<Vec<(Vid, Vid, Row)>, LoadStop>
     requires short { length bytes.now < 2 ^ 32 }
     requires keyed { (keys ≡ 1) ⊎ (keys ≡ 2) }
     requires few { keys + length columns.now < 2 ^ 32 }
@@ -112,11 +117,20 @@ mod tests {
         let vertices = [
             // the byte order mark, and what ends a record
             ("\u{feff}id,a,b\n1,2,3\n", "1 0 2 3;"),
-            ("\n\nid,a,b\r\n1,2,3\r4,5,6\n\r\n\n7,8,9", "1 0 2 3;4 0 5 6;7 0 8 9;"),
+            (
+                "\n\nid,a,b\r\n1,2,3\r4,5,6\n\r\n\n7,8,9",
+                "1 0 2 3;4 0 5 6;7 0 8 9;",
+            ),
             // quoted fields, which may hold line ends and may lack their last quote
-            ("id,\"a\",b,c\n\"1\",2,\"3\",\"x\ny\"\n4,5,6,\n", "1 0 2 3;4 0 5 6;"),
+            (
+                "id,\"a\",b,c\n\"1\",2,\"3\",\"x\ny\"\n4,5,6,\n",
+                "1 0 2 3;4 0 5 6;",
+            ),
             ("id,a,b\n1,2,\"3", "1 0 2 3;"),
-            ("id,a,b\n1,2,\"3\n4,5,6\n", "Data(Cell { row: 1, column: 2, kind: NotInt })"),
+            (
+                "id,a,b\n1,2,\"3\n4,5,6\n",
+                "Data(Cell { row: 1, column: 2, kind: NotInt })",
+            ),
             // as many fields as the header, which is seen before any cell
             ("id,a,b\n1,2,3\n4,5,6,7\n", "Data(Shape(2))"),
             ("id,a,b\nx,2\n", "Data(Shape(1))"),
@@ -127,12 +141,24 @@ mod tests {
                 "id,a,b\n-9223372036854775808,9223372036854775807,-1\n",
                 "-9223372036854775808 0 9223372036854775807 -1;",
             ),
-            ("id,a,b\n-9223372036854775809,0,0\n", "Data(Cell { row: 1, column: 0, kind: NotInt })"),
-            ("id,a,b\n0,9223372036854775808,0\n", "Data(Cell { row: 1, column: 1, kind: NotInt })"),
-            ("id,a,b\n1,2,3\n0,,x\n", "Data(Cell { row: 2, column: 1, kind: NotInt })"),
+            (
+                "id,a,b\n-9223372036854775809,0,0\n",
+                "Data(Cell { row: 1, column: 0, kind: NotInt })",
+            ),
+            (
+                "id,a,b\n0,9223372036854775808,0\n",
+                "Data(Cell { row: 1, column: 1, kind: NotInt })",
+            ),
+            (
+                "id,a,b\n1,2,3\n0,,x\n",
+                "Data(Cell { row: 2, column: 1, kind: NotInt })",
+            ),
             // the header
             ("x,b, a\t,,\tid ,a,id\n9,3,2,,1,8,8\n", "1 0 2 3;"),
-            ("b,a,id\nx,y,1\n", "Data(Cell { row: 1, column: 1, kind: NotInt })"),
+            (
+                "b,a,id\nx,y,1\n",
+                "Data(Cell { row: 1, column: 1, kind: NotInt })",
+            ),
             ("id,a,b\n", ""),
             ("", "Data(Header(0))"),
             ("\u{feff}", "Data(Header(0))"),
@@ -150,15 +176,29 @@ mod tests {
             ("b,dst,src,a\n4,2,1,3\n", "1 2 3 4;"),
             ("src,id,a,b\n1,2,3,4\n", "Data(Header(1))"),
             ("src,dst,a\n1,2,3\n", "Data(Header(3))"),
-            ("src,dst,a,b\n1,2,3,4\n1,x,x,4\n", "Data(Cell { row: 2, column: 1, kind: NotInt })"),
-            ("src,dst,a,b\n1,2,3,0x4\n", "Data(Cell { row: 1, column: 3, kind: NotInt })"),
+            (
+                "src,dst,a,b\n1,2,3,4\n1,x,x,4\n",
+                "Data(Cell { row: 2, column: 1, kind: NotInt })",
+            ),
+            (
+                "src,dst,a,b\n1,2,3,0x4\n",
+                "Data(Cell { row: 1, column: 3, kind: NotInt })",
+            ),
         ];
         for (text, expected) in edges {
             let answered = answer(&rt, rt.alloc(), text.as_bytes(), 2)?;
             assert_eq!(rt; answered.as_str(), expected, "at {text:?}");
         }
         let not_numbers: [&[u8]; 9] = [
-            b"-", b"+-1", b"1 2", b"1.0", b"1e3", b"0x1", b"\xff", b"\xc2\xa01", b"1\n",
+            b"-",
+            b"+-1",
+            b"1 2",
+            b"1.0",
+            b"1e3",
+            b"0x1",
+            b"\xff",
+            b"\xc2\xa01",
+            b"1\n",
         ];
         for cell in not_numbers {
             let mut bytes = Vec::from_slice(rt.alloc(), b"id,a,b\n1,\"")?;
