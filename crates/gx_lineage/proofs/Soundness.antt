@@ -1,14 +1,14 @@
 -- An acyclic graph is sound.
 use Rattle.std.proofs.Common.{◌≡◌, ℕ, ◌<◌, List, [], ◌∷◌, Option, Some, None, arith, refl}
-use Rattle.std.specs.Prelude.{All, Contains, option_map, slice_get, unwrap_or}
-use Rattle.std.specs.List.{flat_map, range_with_len}
+use Rattle.std.specs.Prelude.{All, option_map, slice_get, unwrap_or}
+use Rattle.std.specs.List.{flat_map}
 use Rattle.std.proofs.lemmas.List.Elements.{All-append, All-cons, All-contains, All-head, All-map, All-nil, All-tail}
 use Rattle.std.proofs.lemmas.List.FromFn.{get_or-range_with_len, length-range_with_len}
 use Rattle.gx_lineage.specs.declared.block_id.BlockId.{BlockId}
 use Rattle.gx_lineage.specs.declared.input.Input.{Input}
 use Rattle.gx_lineage.specs.declared.input.Pattern.{Pattern}
 use Rattle.gx_lineage.specs.declared.input.Pattern.TheVariants.{Same, All as EachPart}
-use Rattle.gx_lineage.specs.Lineage.{Lineage, IsAcyclic, IsBlock, IsSound, blocks_read, inputs_of, parts_read}
+use Rattle.gx_lineage.specs.Lineage.{Lineage, IsAcyclic, IsSound, blocks_read, inputs_of, parts_read}
 use Rattle.gx_lineage.specs.Nodes.{Node}
 
 -- what is true of each piece is true of the pieces joined

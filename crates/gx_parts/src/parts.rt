@@ -1,8 +1,7 @@
 //! Parts and the calls over them.
 
 ghost use Rattle.std.specs.Prelude.{◌≡◌, ◌<◌, ◌^◌, IfOk, Some, length, slice_get, vec_len, zip};
-ghost use Rattle.std.specs.List.{AllZip, FoldsTo, enumerate_from};
-ghost use Rattle.gx_parts.specs.Calls.{Answers, AnswersPair, MayCall, MayCallPair, MayTurn, Turns};
+ghost use Rattle.gx_parts.specs.Calls.{Answers, AnswersPair, FoldedBy, MadeBy, MayCall, MayCallPair, MayTurn, Turns};
 ghost use Rattle.gx_parts.specs.Shared.{values};
 
 use gx_rows::NoMemory;
@@ -67,7 +66,7 @@ impl<T> Parts<T> {
         f: F,
     ) -> Result<Parts<U>, NoMemory>
         requires { MayCall (F.pre f) self.now }
-        ensures { IfOk result (λ new. AllZip (Answers (F.post f)) (enumerate_from 0 self.now) new) }
+        ensures { IfOk result (λ new. MadeBy (Answers (F.post f)) self.now new) }
     {
         let mut items = Vec::with_capacity(alloc, self.len() as usize)?;
         for i in 0..self.len() {
@@ -90,7 +89,7 @@ impl<T> Parts<T> {
     ) -> Result<Parts<U>, NoMemory>
         requires as_many { length other.now ≡ length self.now }
         requires callable { MayCallPair (F.pre f) self.now other.now }
-        ensures { IfOk result (λ new. AllZip (AnswersPair (F.post f)) (enumerate_from 0 (zip self.now other.now)) new) }
+        ensures { IfOk result (λ new. MadeBy (AnswersPair (F.post f)) (zip self.now other.now) new) }
     {
         let mut items = Vec::with_capacity(alloc, self.len() as usize)?;
         for i in 0..self.len() {
@@ -112,7 +111,7 @@ impl<T> Parts<T> {
         f: F,
     ) -> Result<B, NoMemory>
         requires { MayTurn (F.pre f) (F.post f) start self.now }
-        ensures { IfOk result (λ last. FoldsTo (Turns (F.post f)) start (enumerate_from 0 self.now) last) }
+        ensures { IfOk result (λ last. FoldedBy (Turns (F.post f)) start self.now last) }
     {
         let mut made = start;
         for i in 0..self.len() {
