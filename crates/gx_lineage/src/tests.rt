@@ -1,6 +1,9 @@
 //! A graph with a diamond, read part by part.
 
 use crate::{BlockId, Dag, Input, NodeId, NodeKind, Pattern};
+use gx_rows::NoMemory;
+use std::alloc::Global;
+use std::process::Abort;
 use std::test::Fail;
 
 fn same(node: NodeId) -> Input {
@@ -18,15 +21,14 @@ fn all(node: NodeId) -> Input {
 }
 
 // Node 3 is computed from nodes 1 and 2, and both of those from node 0.
-#[test]
-fn lists_inputs_part_by_part(rt: HostRuntime) -> Result<(), Fail> {
+fn diamond(rt: &impl Abort, alloc: Global) -> Result<Dag, NoMemory> {
     let nodes: [(NodeKind, &[Input]); 4] = [
         (NodeKind::Vertices, &[]),
         (NodeKind::Ship, &[all(NodeId(0))]),
         (NodeKind::Active, &[same(NodeId(0))]),
         (NodeKind::View, &[same(NodeId(2)), all(NodeId(1))]),
     ];
-    let mut dag = Dag::new(rt.alloc(), 2);
+    let mut dag = Dag::new(alloc, 2);
     for (i, (kind, inputs)) in nodes.iter().enumerate() {
         assert!(rt; inputs.iter().all(|x| x.node.0 < dag.len()), "at {i}");
         assert!(rt; dag.len() < u64::MAX, "at {i}");
@@ -34,6 +36,12 @@ fn lists_inputs_part_by_part(rt: HostRuntime) -> Result<(), Fail> {
         assert_eq!(rt; name, NodeId(i as u64), "at {i}");
         assert_eq!(rt; dag.kind(name), *kind, "at {i}");
     }
+    Ok(dag)
+}
+
+#[test]
+fn lists_inputs_part_by_part(rt: HostRuntime) -> Result<(), Fail> {
+    let dag = diamond(&rt, rt.alloc())?;
     assert_eq!(rt; dag.parts(), 2);
     assert_eq!(rt; dag.len(), 4);
 
