@@ -25,7 +25,10 @@ where
     R::File: Drop,
 {
     /// All files of the system, none open.
-    pub(crate) fn new(rt: &'a R) -> Self {
+    pub(crate) fn new(rt: &'a R) -> Self
+        ensures closed { result.open_file ≡ None }
+        ensures unfailed { result.faults ≡ 0 }
+    {
         DiskFiles {
             rt,
             open_file: None,

@@ -1,6 +1,6 @@
 //! Real streams.
 
-ghost use Rattle.std.specs.Prelude.{None};
+ghost use Rattle.std.specs.Prelude.{◌≡◌, None};
 
 use gx_outside::{Failed, Sink};
 use std::io::Write;
@@ -15,7 +15,9 @@ pub(crate) struct Stream<W: Write + Drop> {
 
 impl<W: Write + Drop> Stream<W> {
     /// The stream, before any write.
-    pub(crate) fn new(writer: W) -> Self {
+    pub(crate) fn new(writer: W) -> Self
+        ensures { result.faults ≡ 0 }
+    {
         Stream { writer, faults: 0 }
     }
 }
