@@ -7,6 +7,7 @@
 #![tactic(auto)]
 
 mod lexeme;
+mod parser;
 mod symbol;
 mod syntax_kind;
 mod tree;

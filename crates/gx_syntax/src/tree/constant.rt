@@ -3,7 +3,7 @@
 use gx_rows::Text;
 
 /// A constant of a list of constants.
-#[derive(Debug, Drop)]
+#[derive(Drop)]
 pub enum Const {
     /// A number with its sign.
     Number(i64),
@@ -16,7 +16,7 @@ pub enum Const {
 }
 
 /// A column's name and a constant.
-#[derive(Debug, Drop)]
+#[derive(Drop)]
 pub struct NamedConst {
     /// The column's name.
     pub name: Text,

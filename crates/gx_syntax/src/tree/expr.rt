@@ -44,7 +44,7 @@ pub enum Binary {
 }
 
 /// An expression, with names as they are written.
-#[derive(Debug, Drop)]
+#[derive(Drop)]
 pub enum Expr {
     /// A number from 0 on: a sign before it is an operator.
     Number(i64),

@@ -6,7 +6,7 @@ use gx_rows::{Text, ValueKind};
 use sqlite_items::Items;
 
 /// A column that is read from a file.
-#[derive(Debug, Drop)]
+#[derive(Drop)]
 pub struct Column {
     /// The column's name.
     pub name: Text,
@@ -15,7 +15,7 @@ pub struct Column {
 }
 
 /// A column that is computed.
-#[derive(Debug, Drop)]
+#[derive(Drop)]
 pub struct Set {
     /// The column's name.
     pub name: Text,
@@ -24,7 +24,7 @@ pub struct Set {
 }
 
 /// A column that is merged.
-#[derive(Debug, Drop)]
+#[derive(Drop)]
 pub struct Merge {
     /// The column's name.
     pub name: Text,
@@ -33,7 +33,7 @@ pub struct Merge {
 }
 
 /// A message that each edge sends to one of its ends.
-#[derive(Debug, Drop)]
+#[derive(Drop)]
 pub struct Send {
     /// The end to which it goes.
     pub to: SideWord,

@@ -4,7 +4,7 @@ use crate::tree::stmt::Stmt;
 use sqlite_items::Items;
 
 /// A script: its statements in order, which are numbered from 1.
-#[derive(Debug, Drop)]
+#[derive(Drop)]
 pub struct Script {
     /// The statements.
     pub statements: Items<Stmt>,

@@ -8,7 +8,7 @@ use gx_rows::Text;
 use sqlite_items::Items;
 
 /// A statement, with the parts of its spelling in the order in which they are written.
-#[derive(Debug, Drop)]
+#[derive(Drop)]
 pub enum Stmt {
     /// `vertices NAME from FILE columns`: the vertices of a file, as a table.
     Vertices {
