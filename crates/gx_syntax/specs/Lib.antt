@@ -1,1 +1,7 @@
+pub mod Left
+pub mod Lexing
+pub mod Quotes
+pub mod Symbols
+pub mod Taking
+pub mod TokenTexts
 pub mod Toks

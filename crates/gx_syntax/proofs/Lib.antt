@@ -1,0 +1,5 @@
+pub mod LexingLemmas
+pub mod QuoteLemmas
+pub mod ReaderLemmas
+pub mod SymbolLemmas
+pub mod TakenLemmas
