@@ -1,5 +1,5 @@
 -- Quoted texts: where they close, and their values.
-use Rattle.std.specs.Prelude.{◌≡◌, ℕ, suc, Bool, true, false, ◌==◌, ◌||◌, if◌then◌else◌, List, [], ◌∷◌, ◌++◌, length, Option, None, Some, codes, refl}
+use Rattle.std.specs.Prelude.{◌≡◌, ℕ, suc, Bool, true, false, not, ◌==◌, ◌||◌, if◌then◌else◌, List, [], ◌∷◌, ◌++◌, length, Option, None, Some, codes, refl}
 use Rattle.gx_syntax.specs.declared.quote.Extent.{Extent}
 use Rattle.gx_syntax.specs.declared.quote.Quote.{Quote}
 use Rattle.gx_syntax.specs.declared.quote.Quote.TheVariants.{Closes, Escapes, Stands, Refused}
@@ -59,6 +59,21 @@ value_on c Refused next = c ∷ next false
 abbrev pub unescaped_from : Bool → List ℕ → List ℕ
 unescaped_from escape [] = []
 unescaped_from escape (c ∷ cs) = value_on c (quote_at escape c) (λ e. unescaped_from e cs)
+
+-- a byte that begins no escape
+abbrev pub is_plain : ℕ → Bool
+is_plain c = not (c == 92)
+
+-- the value of an escape; none where it is no escape
+abbrev pub escape_value : Quote → List ℕ
+escape_value Closes = []
+escape_value Escapes = []
+escape_value (Stands v) = v ∷ []
+escape_value Refused = []
+
+-- what a byte stands for behind a backslash
+abbrev pub stands_for : ℕ → List ℕ
+stands_for c = escape_value (escaped_at c)
 
 -- the value of what stands between quotation marks: escapes stand for their bytes
 unfoldable pub unescaped : List ℕ → List ℕ

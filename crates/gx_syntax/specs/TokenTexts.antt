@@ -1,5 +1,5 @@
 -- Tokens and the slices of a script that they are.
-use Rattle.std.specs.Prelude.{◌≡◌, ℕ, ◌+◌, ◌-◌, ◌≤◌, ◌<◌, List, [], ◌∷◌, ◌++◌, length, drop, take, slice_index, Result, Ok, Err}
+use Rattle.std.specs.Prelude.{◌≡◌, ℕ, ◌+◌, ◌-◌, ◌≤◌, ◌<◌, List, [], ◌∷◌, ◌++◌, length, map, drop, take, slice_index, Result, Ok, Err}
 use Rattle.std.specs.Str.Parse.{digits_value}
 use Rattle.gx_syntax.specs.declared.lexeme.Lexeme.{Lexeme}
 use Rattle.gx_syntax.specs.declared.lexeme.Lexeme.TheVariants as lexemes
@@ -15,7 +15,7 @@ use Rattle.gx_syntax.specs.declared.token.TokenKind.TheVariants as kinds
 use Rattle.gx_syntax.specs.Lexing.{before, left_at, no_more}
 use Rattle.gx_syntax.specs.Quotes.{unescaped}
 use Rattle.gx_syntax.specs.Symbols.{spelling}
-use Rattle.gx_syntax.specs.Toks.{Tok, word, number, quoted, symbol, Ending, whole, broken}
+use Rattle.gx_syntax.specs.Toks.{Lexed, Tok, word, number, quoted, symbol, Ending, whole, broken}
 
 -- the token that a lexeme is
 abbrev pub tok_of : Lexeme → Tok
@@ -32,6 +32,10 @@ placed_of p = (p.start, tok_of p.lexeme)
 abbrev pub ending_of : End → Ending
 ending_of (ends.Whole place) = whole place
 ending_of (ends.Broken place kind) = broken place kind
+
+-- the tokens of a text, from the list of them and their end
+abbrev pub lexed_of : List Placed → End → Lexed
+lexed_of tokens end = record { tokens = map placed_of tokens; ending = ending_of end }
 
 -- a lexeme is written so
 abbrev pub IsWritten : List ℕ → Lexeme → Type 0

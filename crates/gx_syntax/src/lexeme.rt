@@ -1,10 +1,17 @@
 //! Tokens as the parser takes them.
 
-ghost use Rattle.std.specs.Prelude.{◌≡◌};
-ghost use Rattle.gx_syntax.specs.TokenTexts.{kind_of};
+ghost use Rattle.std.specs.Prelude.{◌≡◌, ◌<◌, ◌^◌, IfOk, length};
+ghost use Rattle.gx_syntax.specs.Lexing.{lexed};
+ghost use Rattle.gx_syntax.specs.Quotes.{unescaped};
+ghost use Rattle.gx_syntax.specs.TokenTexts.{kind_of, lexed_of};
 
+use crate::escapes::{plain_len, value_of};
+use crate::reader::{Next, next_at};
+use crate::runs::mark_len;
 use crate::symbol::Symbol;
 use crate::{SyntaxKind, TokenKind};
+use gx_rows::{NoMemory, Text};
+use std::alloc::Global;
 
 /// A token without its place. A number is at most 9223372036854775807.
 #[derive(Clone, Copy)]
@@ -47,4 +54,42 @@ pub(crate) enum End {
     Whole(u32),
     /// No token stands at this place, for this reason.
     Broken(u32, SyntaxKind),
+}
+
+/// The tokens of a text, each with its place, and how they end.
+///
+/// # Errors
+///
+/// `NoMemory` where there is no room for the list.
+pub(crate) fn lex<'a>(alloc: Global, text: &'a str) -> Result<(Vec<Placed<'a>>, End), NoMemory>
+    requires { length text.now < 2 ^ 32 }
+    ensures { IfOk result (λ r. lexed_of r.0.items r.1 ≡ lexed text.now) }
+{
+    let mut tokens = Vec::new(alloc);
+    let mut at = mark_len(text.as_bytes());
+    loop {
+        match next_at(text, at) {
+            Next::Token(placed, slice) => {
+                at = placed.start as usize + slice.len();
+                tokens.push(placed)?;
+            }
+            Next::Ends(end) => return Ok((tokens, end)),
+        }
+    }
+}
+
+/// The value of what stands between the quotation marks of a text, as `Lexeme::Quoted` has it.
+///
+/// # Errors
+///
+/// `NoMemory` where there is no room for the value.
+#[tactic(auto, unfolding(crate::specs::Quotes::unescaped))]
+pub(crate) fn unescape(alloc: Global, raw: &str) -> Result<Text, NoMemory>
+    ensures { IfOk result (λ value. value ≡ unescaped raw.now) }
+{
+    if plain_len(raw.as_bytes()) == raw.len() {
+        return Text::of(alloc, raw);
+    }
+    let value = value_of(alloc, raw)?;
+    Text::of(alloc, value.as_str())
 }

@@ -6,6 +6,7 @@
 //! the plan and the printer of scripts read the tree.
 #![tactic(auto)]
 
+mod escapes;
 mod lexeme;
 mod quote;
 mod reader;
