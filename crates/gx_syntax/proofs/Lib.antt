@@ -1,4 +1,5 @@
 pub mod LexingLemmas
+pub mod ProperLemmas
 pub mod QuoteLemmas
 pub mod ReaderLemmas
 pub mod SymbolLemmas

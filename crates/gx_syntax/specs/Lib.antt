@@ -1,5 +1,6 @@
 pub mod Left
 pub mod Lexing
+pub mod Proper
 pub mod Quotes
 pub mod Symbols
 pub mod Taking

@@ -1,9 +1,10 @@
 //! Tokens as the parser takes them.
 
-ghost use Rattle.std.specs.Prelude.{◌≡◌, ◌<◌, ◌^◌, IfOk, length};
+ghost use Rattle.std.specs.Prelude.{◌≡◌, ◌<◌, ◌^◌, All, IfOk, length};
 ghost use Rattle.gx_syntax.specs.Lexing.{lexed};
+ghost use Rattle.gx_syntax.specs.Proper.{IsProper};
 ghost use Rattle.gx_syntax.specs.Quotes.{unescaped};
-ghost use Rattle.gx_syntax.specs.TokenTexts.{kind_of, lexed_of};
+ghost use Rattle.gx_syntax.specs.TokenTexts.{kind_of, lexed_of, tok_of};
 
 use crate::escapes::{plain_len, value_of};
 use crate::reader::{Next, next_at};
@@ -63,7 +64,8 @@ pub(crate) enum End {
 /// `NoMemory` where there is no room for the list.
 pub(crate) fn lex<'a>(alloc: Global, text: &'a str) -> Result<(Vec<Placed<'a>>, End), NoMemory>
     requires { length text.now < 2 ^ 32 }
-    ensures { IfOk result (λ r. lexed_of r.0.items r.1 ≡ lexed text.now) }
+    ensures whole { IfOk result (λ r. lexed_of r.0.items r.1 ≡ lexed text.now) }
+    ensures proper { IfOk result (λ r. All (λ p. IsProper (tok_of p.lexeme)) r.0.items) }
 {
     let mut tokens = Vec::new(alloc);
     let mut at = mark_len(text.as_bytes());
@@ -92,4 +94,33 @@ pub(crate) fn unescape(alloc: Global, raw: &str) -> Result<Text, NoMemory>
     }
     let value = value_of(alloc, raw)?;
     Text::of(alloc, value.as_str())
+}
+
+#[cfg(test)]
+mod tests {
+    use super::*;
+    use std::test::Fail;
+
+    #[test]
+    fn lists_the_tokens(rt: HostRuntime) -> Result<(), Fail> {
+        let (tokens, end) = lex(rt.alloc(), "f = g ;")?;
+        assert_eq!(rt; tokens.len(), 4);
+        assert!(rt; matches!(end, End::Whole(7)));
+        Ok(())
+    }
+
+    #[test]
+    fn takes_escapes(rt: HostRuntime) -> Result<(), Fail> {
+        let cases = [
+            ("", ""),
+            ("é b", "é b"),
+            ("a\\\"b\\\\\\n", "a\"b\\\n"),
+            ("\\té\\r", "\té\r"),
+        ];
+        for (raw, expected) in cases {
+            let value = unescape(rt.alloc(), raw)?;
+            assert_eq!(rt; value.as_str(), expected, "at {raw:?}");
+        }
+        Ok(())
+    }
 }
