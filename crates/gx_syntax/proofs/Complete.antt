@@ -73,11 +73,11 @@ folds w x st (t ∷ ts) s = ap (λ (r : Expr × List Frame). answered (λ s' st'
 -- an operator behind its first operand
 having_operator : (o : Binary) (a : Expr) (st : List Frame) → room st ≤ level o → having a st (Some (spelled o)) ≡ goes want (waits (waiting.Between a o) ∷ st)
 having_operator o a st h =
-  let found : operator (spelled o) ≡ Some o = operator-spelled o in
-  let low : level o ≤ left o = level-left o in
-  let kept : unwind (left o) a st ≡ (a, st) = stays (left o) a st (omega arith) in
-  let room_there : nat_le (room st) (level o) ≡ true = le-leb (room st) (level o) h in
-  rw (found, kept, room_there) refl
+    let found : operator (spelled o) ≡ Some o = operator-spelled o in
+    let low : level o ≤ left o = level-left o in
+    let kept : unwind (left o) a st ≡ (a, st) = stays (left o) a st (omega arith) in
+    let room_there : nat_le (room st) (level o) ≡ true = le-leb (room st) (level o) h in
+    rw (found, kept, room_there) refl
 
 operates : (o : Binary) (a : Expr) (st : List Frame) (ts : List Tok) → room st ≤ level o → reads (have a) st (spelled o ∷ ts) ≡ reads want (waits (waiting.Between a o) ∷ st) ts
 unfolding reads step
@@ -88,8 +88,8 @@ enters : (o : Unary) (st : List Frame) (ts : List Tok) → First ts → room st 
 unfolding reads step
 enters unary.Minus st ts f h = let test : nat_le (room st) 7 ≡ true = le-leb (room st) 7 h in rw test refl
 enters unary.Not st ts f h =
-  let test : nat_le (room st) 3 ≡ true = le-leb (room st) 3 h in
-  rw (f.whole, f.no_dot, test) refl
+    let test : nat_le (room st) 3 ≡ true = le-leb (room st) 3 h in
+    rw (f.whole, f.no_dot, test) refl
 
 -- a word that is a constant
 stands_alone : (w : List ℕ) (x : Expr) (st : List Frame) (rest : List Tok) (l : ℕ) → constant_word w ≡ Some x → bytes_eq w not_word ≡ false → Stops l rest → reads (named w) st rest ≡ reads (have x) st rest
@@ -134,19 +134,20 @@ stops_comma ts = record { needed = omega arith; no_dot = refl; no_open = refl }
 
 mutual
   unfolding reads step
+
   pub complete : {l : ℕ} {ts : List Tok} {x : Expr} → Spells l ts x → (st : List Frame) (rest : List Tok) → room st ≤ l → Stops l rest → reads want st (ts ++ rest) ≡ reads (have x) st rest
   complete (above {l} d) st rest h s = complete d st rest (omega arith) (stops_tighter l (suc l) rest (omega arith) s)
   complete (between {ts} {us} {a} {b} o d e) st rest h s =
-    let low : level o ≤ left o = level-left o in
-    let high : level o < right o = level-right o in
-    ap (λ v. reads want st v) (append_assoc ts (spelled o ∷ us) rest)
+      let low : level o ≤ left o = level-left o in
+      let high : level o < right o = level-right o in
+      ap (λ v. reads want st v) (append_assoc ts (spelled o ∷ us) rest)
       ∙ (complete d st (spelled o ∷ (us ++ rest)) (omega arith) (stops_operator o (us ++ rest))
       ∙ operates o a st (us ++ rest) h
       ∙ complete e (waits (waiting.Between a o) ∷ st) rest (omega arith) (stops_tighter (level o) (right o) rest (omega arith) s)
       ∙ folds (waiting.Between a o) b st rest s)
   complete (before {ts} {a} o d) st rest h s =
-    let high : outer o < inner o = outer-inner o in
-    enters o st (ts ++ rest) (first_append ts rest (first_of d)) h
+      let high : outer o < inner o = outer-inner o in
+      enters o st (ts ++ rest) (first_append ts rest (first_of d)) h
       ∙ complete d (waits (waiting.Before o) ∷ st) rest (omega arith) (stops_tighter (outer o) (inner o) rest (omega arith) s)
       ∙ folds (waiting.Before o) a st rest s
   complete (constant n p) st rest h s = number_read n st rest p
@@ -155,18 +156,18 @@ mutual
   complete no st rest h s = stands_alone (codes "false") (truth_of false) st rest 8 refl refl s
   complete matching st rest h s = stands_alone (codes "matched") matched_of st rest 8 refl refl s
   complete (column side name) st rest h s = refl
-  complete (call {ts} f p d) st rest h s = 
-    let regroup : (ts ++ symbol symbols.Close ∷ []) ++ rest ≡ ts ++ (symbol symbols.Close ∷ rest) = simp append_assoc in
-    opens f st ((ts ++ symbol symbols.Close ∷ []) ++ rest) p ∙ ap (λ v. reads begun (arguments f [] ∷ st) v) regroup ∙ complete_call d f st rest
+  complete (call {ts} f p d) st rest h s =
+      let regroup : (ts ++ symbol symbols.Close ∷ []) ++ rest ≡ ts ++ (symbol symbols.Close ∷ rest) = simp append_assoc in
+      opens f st ((ts ++ symbol symbols.Close ∷ []) ++ rest) p ∙ ap (λ v. reads begun (arguments f [] ∷ st) v) regroup ∙ complete_call d f st rest
   complete (group {ts} {x} d) st rest h s =
-    let regroup : (ts ++ symbol symbols.Close ∷ []) ++ rest ≡ ts ++ (symbol symbols.Close ∷ rest) = simp append_assoc in
-    group_opened st ((ts ++ symbol symbols.Close ∷ []) ++ rest) ∙ ap (λ v. reads want (bracket ∷ st) v) regroup
+      let regroup : (ts ++ symbol symbols.Close ∷ []) ++ rest ≡ ts ++ (symbol symbols.Close ∷ rest) = simp append_assoc in
+      group_opened st ((ts ++ symbol symbols.Close ∷ []) ++ rest) ∙ ap (λ v. reads want (bracket ∷ st) v) regroup
       ∙ complete d (bracket ∷ st) (symbol symbols.Close ∷ rest) (omega arith) (stops_close rest) ∙ group_closed x st rest
 
   complete_call : {ts : List Tok} {xs : List Expr} → SpellsArguments ts xs → (f : List ℕ) (st : List Frame) (rest : List Tok) → reads begun (arguments f [] ∷ st) (ts ++ symbol symbols.Close ∷ rest) ≡ reads (have (call_of f xs)) st rest
   complete_call none f st rest = refl
   complete_call (some {ts} {us} {xs} {x} e d) f st rest =
-    ap (λ v. reads begun (arguments f [] ∷ st) v) (append_assoc ts us (symbol symbols.Close ∷ rest))
+      ap (λ v. reads begun (arguments f [] ∷ st) v) (append_assoc ts us (symbol symbols.Close ∷ rest))
       ∙ (complete_front e f st us (symbol symbols.Close ∷ rest) (first_of d)
       ∙ complete d (arguments f xs ∷ st) (symbol symbols.Close ∷ rest) (omega arith) (stops_close rest)
       ∙ call_closed f xs x st rest)
@@ -174,7 +175,7 @@ mutual
   complete_front : {ts : List Tok} {xs : List Expr} → SpellsFront ts xs → (f : List ℕ) (st : List Frame) (us rest : List Tok) → First us → reads begun (arguments f [] ∷ st) (ts ++ (us ++ rest)) ≡ reads want (arguments f xs ∷ st) (us ++ rest)
   complete_front start f st us rest i = begun_want f st us rest i
   complete_front (onward {ts = ts} {us = vs} {xs = xs} {x = x} e d) f st us rest i =
-    let regroup : ((ts ++ vs) ++ symbol symbols.Comma ∷ []) ++ (us ++ rest) ≡ ts ++ (vs ++ (symbol symbols.Comma ∷ (us ++ rest))) = simp append_assoc in
-    rw regroup (complete_front e f st vs (symbol symbols.Comma ∷ (us ++ rest)) (first_of d)
+      let regroup : ((ts ++ vs) ++ symbol symbols.Comma ∷ []) ++ (us ++ rest) ≡ ts ++ (vs ++ (symbol symbols.Comma ∷ (us ++ rest))) = simp append_assoc in
+      rw regroup (complete_front e f st vs (symbol symbols.Comma ∷ (us ++ rest)) (first_of d)
       ∙ complete d (arguments f xs ∷ st) (symbol symbols.Comma ∷ (us ++ rest)) (omega arith) (stops_comma (us ++ rest))
       ∙ comma_read f xs x st (us ++ rest))

@@ -21,24 +21,24 @@ no_operator t (Some o) e h = absurd (let lie : true ≡ false = h in cc)
 stops : (rest : List Tok) → Ends goes_on rest → Stops 1 rest
 stops [] e = omega arith
 stops (t ∷ ts) e =
-  let none : operator t ≡ None = no_operator t (operator t) refl (or_left (is_operator (operator t)) (is_dot t || is_open t) e) in
-  let behind : (is_dot t || is_open t) ≡ false = or_right (is_operator (operator t)) (is_dot t || is_open t) e in
-  record { needed = rw none (omega arith); no_dot = or_left (is_dot t) (is_open t) behind; no_open = or_right (is_dot t) (is_open t) behind }
+    let none : operator t ≡ None = no_operator t (operator t) refl (or_left (is_operator (operator t)) (is_dot t || is_open t) e) in
+    let behind : (is_dot t || is_open t) ≡ false = or_right (is_operator (operator t)) (is_dot t || is_open t) e in
+    record { needed = rw none (omega arith); no_dot = or_left (is_dot t) (is_open t) behind; no_open = or_right (is_dot t) (is_open t) behind }
 
 after_ends : (t : Tok) (x : Expr) → after t x [] ≡ ends x
 after_ends t x = go (is_close t) (is_comma t)
   where
-  go : (c d : Bool) → (if c then closing x [] else (if d then parting x [] else over x [])) ≡ ends x
-  go true d = refl
-  go false true = refl
-  go false false = refl
+    go : (c d : Bool) → (if c then closing x [] else (if d then parting x [] else over x [])) ≡ ends x
+    go true d = refl
+    go false true = refl
+    go false false = refl
 
 has_all : (x : Expr) (rest : List Tok) → Ends goes_on rest → reads (have x) [] rest ≡ Ok (x, rest)
 unfolding reads step
 has_all x [] e = refl
 has_all x (t ∷ ts) e =
-  let none : operator t ≡ None = no_operator t (operator t) refl (or_left (is_operator (operator t)) (is_dot t || is_open t) e) in
-  rw (none, after_ends t x) refl
+    let none : operator t ≡ None = no_operator t (operator t) refl (or_left (is_operator (operator t)) (is_dot t || is_open t) e) in
+    rw (none, after_ends t x) refl
 
 pub expression_faithful : Faithful (Spells 1) goes_on expression
 expression_faithful = record {

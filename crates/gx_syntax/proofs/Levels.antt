@@ -66,9 +66,9 @@ needs-high (Some t) = least_before-high (operator t)
 pub not_le : (a b : ℕ) → b < a → nat_le a b ≡ false
 not_le a b h = go (nat_le a b) refl
   where
-  go : (c : Bool) → nat_le a b ≡ c → c ≡ false
-  go true e = absurd (let up : a ≤ b = leb-true a b e in omega arith)
-  go false e = refl
+    go : (c : Bool) → nat_le a b ≡ c → c ≡ false
+    go true e = absurd (let up : a ≤ b = leb-true a b e in omega arith)
+    go false e = refl
 
 pub name_of : (w : List ℕ) → bytes_eq w not_word ≡ false → IsTrue (is_name w)
 name_of w e = rw e refl
@@ -102,12 +102,13 @@ symbol_operator_is _ o e = cc
 word_operator_is : (w : List ℕ) (o : Binary) → word_operator w ≡ Some o → word w ≡ spelled o
 word_operator_is w o e = go (bytes_eq w _) refl e
   where
-  next : (c : Bool) → bytes_eq w (codes "and") ≡ c → (if c then Some binary.And else None) ≡ Some o → word w ≡ spelled o
-  next true h e = let same : binary.And ≡ o = cc in rw (← same, same_word w (codes "and") h) refl
-  next false h e = cc
-  go : (c : Bool) → bytes_eq w (codes "or") ≡ c → (if c then Some binary.Or else (if bytes_eq w (codes "and") then Some binary.And else None)) ≡ Some o → word w ≡ spelled o
-  go true h e = let same : binary.Or ≡ o = cc in rw (← same, same_word w (codes "or") h) refl
-  go false h e = next (bytes_eq w (codes "and")) refl e
+    next : (c : Bool) → bytes_eq w (codes "and") ≡ c → (if c then Some binary.And else None) ≡ Some o → word w ≡ spelled o
+    next true h e = let same : binary.And ≡ o = cc in rw (← same, same_word w (codes "and") h) refl
+    next false h e = cc
+
+    go : (c : Bool) → bytes_eq w (codes "or") ≡ c → (if c then Some binary.Or else (if bytes_eq w (codes "and") then Some binary.And else None)) ≡ Some o → word w ≡ spelled o
+    go true h e = let same : binary.Or ≡ o = cc in rw (← same, same_word w (codes "or") h) refl
+    go false h e = next (bytes_eq w (codes "and")) refl e
 
 pub operator_is : (t : Tok) (o : Binary) → operator t ≡ Some o → t ≡ spelled o
 operator_is (word w) o e = word_operator_is w o e
@@ -139,22 +140,24 @@ minus_is _ e = cc
 pub constant_spells : (w : List ℕ) (x : Expr) → constant_word w ≡ Some x → Spells 8 (word w ∷ []) x
 constant_spells w x e = go (bytes_eq w (codes "true")) refl e
   where
-  matched : (c : Bool) → bytes_eq w (codes "matched") ≡ c → (if c then Some matched_of else None) ≡ Some x → Spells 8 (word w ∷ []) x
-  matched true h e = let same : matched_of ≡ x = cc in rw (← same, same_word w (codes "matched") h) matching
-  matched false h e = cc
-  falsehood : (c : Bool) → bytes_eq w (codes "false") ≡ c → (if c then Some (truth_of false) else (if bytes_eq w (codes "matched") then Some matched_of else None)) ≡ Some x → Spells 8 (word w ∷ []) x
-  falsehood true h e = let same : truth_of false ≡ x = cc in rw (← same, same_word w (codes "false") h) no
-  falsehood false h e = matched (bytes_eq w (codes "matched")) refl e
-  go : (c : Bool) → bytes_eq w (codes "true") ≡ c → (if c then Some (truth_of true) else (if bytes_eq w (codes "false") then Some (truth_of false) else (if bytes_eq w (codes "matched") then Some matched_of else None))) ≡ Some x → Spells 8 (word w ∷ []) x
-  go true h e = let same : truth_of true ≡ x = cc in rw (← same, same_word w (codes "true") h) yes
-  go false h e = falsehood (bytes_eq w (codes "false")) refl e
+    matched : (c : Bool) → bytes_eq w (codes "matched") ≡ c → (if c then Some matched_of else None) ≡ Some x → Spells 8 (word w ∷ []) x
+    matched true h e = let same : matched_of ≡ x = cc in rw (← same, same_word w (codes "matched") h) matching
+    matched false h e = cc
+
+    falsehood : (c : Bool) → bytes_eq w (codes "false") ≡ c → (if c then Some (truth_of false) else (if bytes_eq w (codes "matched") then Some matched_of else None)) ≡ Some x → Spells 8 (word w ∷ []) x
+    falsehood true h e = let same : truth_of false ≡ x = cc in rw (← same, same_word w (codes "false") h) no
+    falsehood false h e = matched (bytes_eq w (codes "matched")) refl e
+
+    go : (c : Bool) → bytes_eq w (codes "true") ≡ c → (if c then Some (truth_of true) else (if bytes_eq w (codes "false") then Some (truth_of false) else (if bytes_eq w (codes "matched") then Some matched_of else None))) ≡ Some x → Spells 8 (word w ∷ []) x
+    go true h e = let same : truth_of true ≡ x = cc in rw (← same, same_word w (codes "true") h) yes
+    go false h e = falsehood (bytes_eq w (codes "false")) refl e
 
 -- a tighter level serves at a looser one
 lower : (d k l : ℕ) {ts : List Tok} {x : Expr} → d + k ≡ l → Spells l ts x → Spells k ts x
 lower zero k l {ts} {x} e s = let same : l ≡ k = omega arith in subst (λ m. Spells m ts x) same s
 lower (suc d) k l {ts} {x} e s =
-  let same : l ≡ suc (d + k) = omega arith in
-  lower d k (d + k) refl (above (subst (λ m. Spells m ts x) same s))
+    let same : l ≡ suc (d + k) = omega arith in
+    lower d k (d + k) refl (above (subst (λ m. Spells m ts x) same s))
 
 pub lowered : (k l : ℕ) {ts : List Tok} {x : Expr} → k ≤ l → Spells l ts x → Spells k ts x
 lowered k l h s = lower (l - k) k l (omega arith) s
@@ -163,9 +166,9 @@ lowered k l h s = lower (l - k) k l (omega arith) s
 pub stays : (k : ℕ) (x : Expr) (st : List Frame) → room st ≤ k → unwind k x st ≡ (x, st)
 stays k x [] h = refl
 stays k x (waits w ∷ st) h =
-  let below : weight w < need w = weight-need w in
-  let test : nat_le k (weight w) ≡ false = not_le k (weight w) (omega arith) in
-  rw test refl
+    let below : weight w < need w = weight-need w in
+    let test : nat_le k (weight w) ≡ false = not_le k (weight w) (omega arith) in
+    rw test refl
 stays k x (bracket ∷ st) h = refl
 stays k x (arguments f xs ∷ st) h = refl
 

@@ -1,6 +1,16 @@
 pub mod Readers
 pub mod Levels
+pub mod Ending
+pub mod Turns
 pub mod Complete
 pub mod Local
 pub mod Sound
 pub mod Expressions
+pub mod Parts
+pub mod Forms
+pub mod LexingLemmas
+pub mod ProperLemmas
+pub mod QuoteLemmas
+pub mod ReaderLemmas
+pub mod SymbolLemmas
+pub mod TakenLemmas

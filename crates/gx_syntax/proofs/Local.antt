@@ -23,7 +23,7 @@ within_more t ts (Ok r) h = omega arith
 within_more t ts (Err left) h = omega arith
 
 within_answered : (next : Spot → List Frame → Result (Expr × List Tok) (List Tok)) (t : Tok) (ts : List Tok) (a : Answer)
-  → ((s : Spot) (st : List Frame) → Within ts (next s st)) → Within (t ∷ ts) (answered next (t ∷ ts) a)
+    → ((s : Spot) (st : List Frame) → Within ts (next s st)) → Within (t ∷ ts) (answered next (t ∷ ts) a)
 within_answered next t ts (goes s st) h = within_more t ts (next s st) (h s st)
 within_answered next t ts (ends x) h = omega arith
 within_answered next t ts refuses h = omega arith
@@ -40,19 +40,19 @@ too_long ts rest None h w = absurd (omega arith)
 
 -- an answer where one stops
 ends_local : (x : Expr) (ts : List Tok) (t : Tok) (r s : List Tok) (o : Option Expr) → ts ≡ t ∷ r → ◌≡◌ {A = Result (Expr × List Tok) (List Tok)} (Ok (x, ts)) (leaves o (t ∷ r))
-  → ◌≡◌ {A = Result (Expr × List Tok) (List Tok)} (Ok (x, t ∷ s)) (leaves o (t ∷ s))
+    → ◌≡◌ {A = Result (Expr × List Tok) (List Tok)} (Ok (x, t ∷ s)) (leaves o (t ∷ s))
 ends_local x ts t r s None e h = cc
 ends_local x ts t r s (Some y) e h =
-  let same : x ≡ y = ap (λ (p : Expr × List Tok). p.0) (ok_same {X = Expr × List Tok} {Y = List Tok} h) in
-  rw same refl
+    let same : x ≡ y = ap (λ (p : Expr × List Tok). p.0) (ok_same {X = Expr × List Tok} {Y = List Tok} h) in
+    rw same refl
 
 refuses_local : (ts : List Tok) (t : Tok) (r s : List Tok) (o : Option Expr) → ◌≡◌ {A = Result (Expr × List Tok) (List Tok)} (Err ts) (leaves o (t ∷ r))
-  → ◌≡◌ {A = Result (Expr × List Tok) (List Tok)} (Err (t ∷ s)) (leaves o (t ∷ s))
+    → ◌≡◌ {A = Result (Expr × List Tok) (List Tok)} (Err (t ∷ s)) (leaves o (t ∷ s))
 refuses_local ts t r s None h = refl
 refuses_local ts t r s (Some y) h = cc
 
 here : (next next' : Spot → List Frame → Result (Expr × List Tok) (List Tok)) (t : Tok) (r s : List Tok) (o : Option Expr) (a : Answer)
-  → ((s' : Spot) (st' : List Frame) → Within r (next s' st')) → answered next (t ∷ r) a ≡ leaves o (t ∷ r) → answered next' (t ∷ s) a ≡ leaves o (t ∷ s)
+    → ((s' : Spot) (st' : List Frame) → Within r (next s' st')) → answered next (t ∷ r) a ≡ leaves o (t ∷ r) → answered next' (t ∷ s) a ≡ leaves o (t ∷ s)
 here next next' t r s o (goes s' st') h e = absurd (too_long r (t ∷ r) o (omega arith) (subst (λ q. Within r q) e (h s' st')))
 here next next' t r s o (ends x) h e = ends_local x (t ∷ r) t r s o refl e
 here next next' t r s o refuses h e = refuses_local (t ∷ r) t r s o e
@@ -63,18 +63,18 @@ leaves_within ts o rest q e h = subst (λ a. Within ts a) (sym e) h
 ends_early : (x : Expr) (ts rest : List Tok) (o : Option Expr) → length rest < length ts → ◌≡◌ {A = Result (Expr × List Tok) (List Tok)} (Ok (x, ts)) (leaves o rest) → ⊥
 ends_early x ts rest None h e = cc
 ends_early x ts rest (Some y) h e =
-  let same : length ts ≡ length rest = ap (λ (p : Expr × List Tok). length p.1) (ok_same {X = Expr × List Tok} {Y = List Tok} e) in
-  absurd (omega arith)
+    let same : length ts ≡ length rest = ap (λ (p : Expr × List Tok). length p.1) (ok_same {X = Expr × List Tok} {Y = List Tok} e) in
+    absurd (omega arith)
 
 refuses_early : (ts rest : List Tok) (o : Option Expr) → length rest < length ts → ◌≡◌ {A = Result (Expr × List Tok) (List Tok)} (Err ts) (leaves o rest) → ⊥
 refuses_early ts rest (Some y) h e = cc
 refuses_early ts rest None h e =
-  let same : length ts ≡ length rest = ap (λ (p : List Tok). length p) (err_same {X = Expr × List Tok} {Y = List Tok} e) in
-  absurd (omega arith)
+    let same : length ts ≡ length rest = ap (λ (p : List Tok). length p) (err_same {X = Expr × List Tok} {Y = List Tok} e) in
+    absurd (omega arith)
 
 there : (next next' : Spot → List Frame → Result (Expr × List Tok) (List Tok)) (u : Tok) (ts ts' rest rest' : List Tok) (o : Option Expr) (a : Answer)
-  → length rest ≤ length ts → ((s' : Spot) (st' : List Frame) → next s' st' ≡ leaves o rest → next' s' st' ≡ leaves o rest')
-  → answered next (u ∷ ts) a ≡ leaves o rest → answered next' (u ∷ ts') a ≡ leaves o rest'
+    → length rest ≤ length ts → ((s' : Spot) (st' : List Frame) → next s' st' ≡ leaves o rest → next' s' st' ≡ leaves o rest')
+    → answered next (u ∷ ts) a ≡ leaves o rest → answered next' (u ∷ ts') a ≡ leaves o rest'
 there next next' u ts ts' rest rest' o (goes s' st') l h e = h s' st' e
 there next next' u ts ts' rest rest' o (ends x) l h e = absurd (ends_early x (u ∷ ts) rest o (omega arith) e)
 there next next' u ts ts' rest rest' o refuses l h e = absurd (refuses_early (u ∷ ts) rest o (omega arith) e)
@@ -83,5 +83,5 @@ pub local : (w : List Tok) (s : Spot) (st : List Frame) (t : Tok) (r r' : List T
 unfolding reads
 local [] s st t r r' o e = here (λ a b. reads a b r) (λ a b. reads a b r') t r r' o (step s st (Some t)) (λ a b. within r a b) e
 local (u ∷ w) s st t r r' o e =
-  there (λ a b. reads a b (w ++ t ∷ r)) (λ a b. reads a b (w ++ t ∷ r')) u (w ++ t ∷ r) (w ++ t ∷ r') (t ∷ r) (t ∷ r') o (step s st (Some u))
+    there (λ a b. reads a b (w ++ t ∷ r)) (λ a b. reads a b (w ++ t ∷ r')) u (w ++ t ∷ r) (w ++ t ∷ r') (t ∷ r) (t ∷ r') o (step s st (Some u))
     (simp length-append (omega arith)) (λ a b h. local w a b t r r' o h) e

@@ -47,14 +47,14 @@ begun_at a b e c = subst (λ v. Begun (Spells 1) v) e c
 completes : {st : List Frame} {p : List Tok} → Stands st p → (l : ℕ) (q : List Tok) (x : Expr) → Spells l q x → room st ≤ l → Begun (Spells 1) (p ++ q)
 completes base l q x d h = record { rest = []; value = x; spells = rw append-nil (lowered 1 l h d) }
 completes (on_waits {st} {p} {q = q'} {w} s fit b) l q x d h =
-  begun_at (p ++ (q' ++ q)) ((p ++ q') ++ q) (sym (append_assoc p q' q)) (completes s (weight w) (q' ++ q) (joined w x) (brought b (lowered (need w) l h d)) fit)
+    begun_at (p ++ (q' ++ q)) ((p ++ q') ++ q) (sym (append_assoc p q' q)) (completes s (weight w) (q' ++ q) (joined w x) (brought b (lowered (need w) l h d)) fit)
 completes (on_bracket {st} {p} s) l q x d h =
-  let high : room st ≤ 8 = room-high st in
-  begun_less ((p ++ symbol symbols.Open ∷ []) ++ q) (symbol symbols.Close ∷ [])
+    let high : room st ≤ 8 = room-high st in
+    begun_less ((p ++ symbol symbols.Open ∷ []) ++ q) (symbol symbols.Close ∷ [])
     (begun_at _ _ (simp append_assoc) (completes s 8 (symbol symbols.Open ∷ (q ++ symbol symbols.Close ∷ [])) x (group (lowered 1 l h d)) high))
 completes (on_arguments {st} {p} {q = q'} {xs} f s n e) l q x d h =
-  let high : room st ≤ 8 = room-high st in
-  begun_less ((p ++ word f ∷ symbol symbols.Open ∷ q') ++ q) (symbol symbols.Close ∷ [])
+    let high : room st ≤ 8 = room-high st in
+    begun_less ((p ++ word f ∷ symbol symbols.Open ∷ q') ++ q) (symbol symbols.Close ∷ [])
     (begun_at _ _ (simp append_assoc) (completes s 8 (word f ∷ symbol symbols.Open ∷ ((q' ++ q) ++ symbol symbols.Close ∷ [])) (call_of f (xs ++ x ∷ [])) (call f n (some e (lowered 1 l h d))) high))
 
 -- the tokens that brought the parser where it is
@@ -115,10 +115,10 @@ unwound (on_bracket {st} {p} s) k l q x d h fit = record { p = p ++ symbol symbo
 unwound (on_arguments {st} {p} {q = q'} f s n e) k l q x d h fit = record { p = p ++ word f ∷ symbol symbols.Open ∷ q'; q = q; level_is = l; whole = refl; stands = on_arguments f s n e; spells = d; high = h; fits_there = fit }
 unwound (on_waits {st} {p} {q = q'} {w} s fit' b) k l q x d h fit = go (nat_le k (weight w)) refl (λ up. unwound s k (weight w) (q' ++ q) (joined w x) (brought b (lowered (need w) l fit d)) up fit')
   where
-  go : (c : Bool) → nat_le k (weight w) ≡ c → (k ≤ weight w → Unwound k (p ++ (q' ++ q)) (unwind k (joined w x) st).0 (unwind k (joined w x) st).1)
-    → Unwound k ((p ++ q') ++ q) (if c then unwind k (joined w x) st else (x, waits w ∷ st)).0 (if c then unwind k (joined w x) st else (x, waits w ∷ st)).1
-  go true e again = subst (λ v. Unwound k v (unwind k (joined w x) st).0 (unwind k (joined w x) st).1) (sym (append_assoc p q' q)) (again (leb-true k (weight w) e))
-  go false e again = record { p = p ++ q'; q = q; level_is = l; whole = refl; stands = on_waits s fit' b; spells = d; high = h; fits_there = fit }
+    go : (c : Bool) → nat_le k (weight w) ≡ c → (k ≤ weight w → Unwound k (p ++ (q' ++ q)) (unwind k (joined w x) st).0 (unwind k (joined w x) st).1)
+        → Unwound k ((p ++ q') ++ q) (if c then unwind k (joined w x) st else (x, waits w ∷ st)).0 (if c then unwind k (joined w x) st else (x, waits w ∷ st)).1
+    go true e again = subst (λ v. Unwound k v (unwind k (joined w x) st).0 (unwind k (joined w x) st).1) (sym (append_assoc p q' q)) (again (leb-true k (weight w) e))
+    go false e again = record { p = p ++ q'; q = q; level_is = l; whole = refl; stands = on_waits s fit' b; spells = d; high = h; fits_there = fit }
 
 unwound_alive : (k : ℕ) (pre : List Tok) (x : Expr) (st : List Frame) → Unwound k pre x st → Begun (Spells 1) pre
 unwound_alive k pre x st u = begun_at (u.p ++ u.q) pre (sym u.whole) (completes u.stands u.level_is u.q x u.spells u.fits_there)
@@ -129,10 +129,10 @@ base_empty base = refl
 
 unwound_whole : (k : ℕ) (pre : List Tok) (x : Expr) → 1 ≤ k → Unwound k pre x [] → Spells 1 pre x
 unwound_whole k pre x h u =
-  let empty : u.p ≡ [] = base_empty u.stands in
-  let same : pre ≡ u.q = u.whole ∙ ap (λ v. v ++ u.q) empty in
-  let up : k ≤ u.level_is = u.high in
-  subst (λ v. Spells 1 v x) (sym same) (lowered 1 u.level_is (omega arith) u.spells)
+    let empty : u.p ≡ [] = base_empty u.stands in
+    let same : pre ≡ u.q = u.whole ∙ ap (λ v. v ++ u.q) empty in
+    let up : k ≤ u.level_is = u.high in
+    subst (λ v. Spells 1 v x) (sym same) (lowered 1 u.level_is (omega arith) u.spells)
 
 good_over : (pre : List Tok) (x : Expr) (st : List Frame) (t : Option Tok) → Unwound 1 pre x st → Good pre t (over x st)
 good_over pre x [] t u = good_ends pre t x (unwound_whole 1 pre x (omega arith) u)
@@ -165,21 +165,22 @@ good_parting pre x (arguments f xs ∷ st) t e u = unwound_holds u.p u.q pre t (
 good_after : (pre : List Tok) (x : Expr) (st : List Frame) (t : Tok) → Unwound 1 pre x st → Good pre (Some t) (after t x st)
 good_after pre x st t u = go (is_close t) refl
   where
-  next : (c : Bool) → is_comma t ≡ c → Good pre (Some t) (if c then parting x st else over x st)
-  next true e = good_parting pre x st t (comma_is t e) u
-  next false e = good_over pre x st (Some t) u
-  go : (c : Bool) → is_close t ≡ c → Good pre (Some t) (if c then closing x st else (if is_comma t then parting x st else over x st))
-  go true e = good_closing pre x st t (close_is t e) u
-  go false e = next (is_comma t) refl
+    next : (c : Bool) → is_comma t ≡ c → Good pre (Some t) (if c then parting x st else over x st)
+    next true e = good_parting pre x st t (comma_is t e) u
+    next false e = good_over pre x st (Some t) u
+
+    go : (c : Bool) → is_close t ≡ c → Good pre (Some t) (if c then closing x st else (if is_comma t then parting x st else over x st))
+    go true e = good_closing pre x st t (close_is t e) u
+    go false e = next (is_comma t) refl
 
 good_operating : (o : Binary) (pre : List Tok) (x : Expr) (st : List Frame) (t : Tok) → t ≡ spelled o → Unwound (left o) pre x st → Good pre (Some t) (operating o x st)
 good_operating o pre x st t e u = go (nat_le (room st) (level o)) refl
   where
-  go : (c : Bool) → nat_le (room st) (level o) ≡ c → Good pre (Some t) (if c then goes want (waits (waiting.Between x o) ∷ st) else refuses)
-  go true h = unwound_holds u.p u.q pre t (spelled o) u.whole e
-    (holds_at (u.p ++ (u.q ++ spelled o ∷ [])) ((u.p ++ u.q) ++ spelled o ∷ []) (sym (append_assoc u.p u.q (spelled o ∷ [])))
-      (at_want (on_waits u.stands (leb-true (room st) (level o) h) (brings_between o (lowered (left o) u.level_is u.high u.spells)))))
-  go false h = unwound_alive (left o) pre x st u
+    go : (c : Bool) → nat_le (room st) (level o) ≡ c → Good pre (Some t) (if c then goes want (waits (waiting.Between x o) ∷ st) else refuses)
+    go true h = unwound_holds u.p u.q pre t (spelled o) u.whole e
+        (holds_at (u.p ++ (u.q ++ spelled o ∷ [])) ((u.p ++ u.q) ++ spelled o ∷ []) (sym (append_assoc u.p u.q (spelled o ∷ [])))
+        (at_want (on_waits u.stands (leb-true (room st) (level o) h) (brings_between o (lowered (left o) u.level_is u.high u.spells)))))
+    go false h = unwound_alive (left o) pre x st u
 
 good_settled : (t : Tok) (o : Option Binary) (pre : List Tok) (x : Expr) (st : List Frame) → operator t ≡ o → Unwound (least_before o) pre x st → Good pre (Some t) (settled t o x st)
 good_settled t None pre x st e u = good_after pre x st t u
@@ -198,56 +199,60 @@ good_single {st} {p} s (quoted q) = at_have s (quotation q)
 good_single {st} {p} s (symbol q) = alive_want p s
 good_single {st} {p} s (number n) = go (fits n) refl
   where
-  go : (c : Bool) → fits n ≡ c → Good p (Some (number n)) (if c then goes (have (number_of n)) st else refuses)
-  go true e = at_have s (constant n e)
-  go false e = alive_want p s
+    go : (c : Bool) → fits n ≡ c → Good p (Some (number n)) (if c then goes (have (number_of n)) st else refuses)
+    go true e = at_have s (constant n e)
+    go false e = alive_want p s
 
 good_begins : {st : List Frame} {p : List Tok} → Stands st p → (t : Tok) → Good p (Some t) (begins t st)
 good_begins {st} {p} s t = go (is_open t) refl
   where
-  minus : (c : Bool) → is_minus t ≡ true → nat_le (room st) 7 ≡ c → Good p (Some t) (if c then goes want (waits (waiting.Before unary.Minus) ∷ st) else refuses)
-  minus true e h = rw (minus_is t e) (at_want (on_waits s (leb-true (room st) 7 h) (brings_before unary.Minus)))
-  minus false e h = alive_want p s
-  next : (c : Bool) → is_minus t ≡ c → Good p (Some t) (if c then (if nat_le (room st) 7 then goes want (waits (waiting.Before unary.Minus) ∷ st) else refuses) else single t st)
-  next true e = minus (nat_le (room st) 7) e refl
-  next false e = good_single s t
-  go : (c : Bool) → is_open t ≡ c → Good p (Some t) (if c then goes want (bracket ∷ st) else (if is_minus t then (if nat_le (room st) 7 then goes want (waits (waiting.Before unary.Minus) ∷ st) else refuses) else single t st))
-  go true e = rw (open_is t e) (at_want (on_bracket s))
-  go false e = next (is_minus t) refl
+    minus : (c : Bool) → is_minus t ≡ true → nat_le (room st) 7 ≡ c → Good p (Some t) (if c then goes want (waits (waiting.Before unary.Minus) ∷ st) else refuses)
+    minus true e h = rw (minus_is t e) (at_want (on_waits s (leb-true (room st) 7 h) (brings_before unary.Minus)))
+    minus false e h = alive_want p s
+
+    next : (c : Bool) → is_minus t ≡ c → Good p (Some t) (if c then (if nat_le (room st) 7 then goes want (waits (waiting.Before unary.Minus) ∷ st) else refuses) else single t st)
+    next true e = minus (nat_le (room st) 7) e refl
+    next false e = good_single s t
+
+    go : (c : Bool) → is_open t ≡ c → Good p (Some t) (if c then goes want (bracket ∷ st) else (if is_minus t then (if nat_le (room st) 7 then goes want (waits (waiting.Before unary.Minus) ∷ st) else refuses) else single t st))
+    go true e = rw (open_is t e) (at_want (on_bracket s))
+    go false e = next (is_minus t) refl
 
 good_standing : {st : List Frame} {p : List Tok} → Stands st p → (w : List ℕ) (t : Option Tok) → Good (p ++ word w ∷ []) t (standing (constant_word w) st t)
 good_standing {st} {p} s w t = go (constant_word w) refl
   where
-  go : (o : Option Expr) → constant_word w ≡ o → Good (p ++ word w ∷ []) t (standing o st t)
-  go None e = good_refuses (p ++ word w ∷ []) t (alive (at_named w s))
-  go (Some x) e = good_having s (word w ∷ []) x (constant_spells w x e) t
+    go : (o : Option Expr) → constant_word w ≡ o → Good (p ++ word w ∷ []) t (standing o st t)
+    go None e = good_refuses (p ++ word w ∷ []) t (alive (at_named w s))
+    go (Some x) e = good_having s (word w ∷ []) x (constant_spells w x e) t
 
 good_negating : {st : List Frame} {p : List Tok} → Stands st p → (w : List ℕ) (t : Tok) → w ≡ not_word → Good (p ++ word w ∷ []) (Some t) (negating st (Some t))
 good_negating {st} {p} s w t e = go (nat_le (room st) 3) refl
   where
-  go : (c : Bool) → nat_le (room st) 3 ≡ c → Good (p ++ word w ∷ []) (Some t) (if c then begins t (waits (waiting.Before unary.Not) ∷ st) else refuses)
-  go true h = rw e (good_begins (on_waits s (leb-true (room st) 3 h) (brings_before unary.Not)) t)
-  go false h = alive (at_named w s)
+    go : (c : Bool) → nat_le (room st) 3 ≡ c → Good (p ++ word w ∷ []) (Some t) (if c then begins t (waits (waiting.Before unary.Not) ∷ st) else refuses)
+    go true h = rw e (good_begins (on_waits s (leb-true (room st) 3 h) (brings_before unary.Not)) t)
+    go false h = alive (at_named w s)
 
 good_naming_end : {st : List Frame} {p : List Tok} → Stands st p → (w : List ℕ) → Good (p ++ word w ∷ []) None (naming w st None)
 good_naming_end {st} {p} s w = go (bytes_eq w not_word)
   where
-  go : (c : Bool) → Good (p ++ word w ∷ []) None (if c then refuses else standing (constant_word w) st None)
-  go true = alive (at_named w s)
-  go false = good_standing s w None
+    go : (c : Bool) → Good (p ++ word w ∷ []) None (if c then refuses else standing (constant_word w) st None)
+    go true = alive (at_named w s)
+    go false = good_standing s w None
 
 good_naming : {st : List Frame} {p : List Tok} → Stands st p → (w : List ℕ) (t : Tok) → Good (p ++ word w ∷ []) (Some t) (naming w st (Some t))
 good_naming {st} {p} s w t = dots (is_dot t) refl
   where
-  opens : (c : Bool) → is_open t ≡ c → bytes_eq w not_word ≡ false → Good (p ++ word w ∷ []) (Some t) (if c then goes begun (arguments w [] ∷ st) else standing (constant_word w) st (Some t))
-  opens true e h = rw (open_is t e) (holds_at (p ++ (word w ∷ symbol symbols.Open ∷ [])) _ (simp append_assoc) (at_begun w s (name_of w h)))
-  opens false e h = good_standing s w (Some t)
-  nots : (c : Bool) → bytes_eq w not_word ≡ c → Good (p ++ word w ∷ []) (Some t) (if c then negating st (Some t) else (if is_open t then goes begun (arguments w [] ∷ st) else standing (constant_word w) st (Some t)))
-  nots true h = good_negating s w t ((bytes_eq-Decides w not_word).0 h)
-  nots false h = opens (is_open t) refl h
-  dots : (c : Bool) → is_dot t ≡ c → Good (p ++ word w ∷ []) (Some t) (if c then goes (dotted w) st else (if bytes_eq w not_word then negating st (Some t) else (if is_open t then goes begun (arguments w [] ∷ st) else standing (constant_word w) st (Some t))))
-  dots true e = rw (dot_is t e) (holds_at (p ++ (word w ∷ symbol symbols.Dot ∷ [])) _ (simp append_assoc) (at_dotted w s))
-  dots false e = nots (bytes_eq w not_word) refl
+    opens : (c : Bool) → is_open t ≡ c → bytes_eq w not_word ≡ false → Good (p ++ word w ∷ []) (Some t) (if c then goes begun (arguments w [] ∷ st) else standing (constant_word w) st (Some t))
+    opens true e h = rw (open_is t e) (holds_at (p ++ (word w ∷ symbol symbols.Open ∷ [])) _ (simp append_assoc) (at_begun w s (name_of w h)))
+    opens false e h = good_standing s w (Some t)
+
+    nots : (c : Bool) → bytes_eq w not_word ≡ c → Good (p ++ word w ∷ []) (Some t) (if c then negating st (Some t) else (if is_open t then goes begun (arguments w [] ∷ st) else standing (constant_word w) st (Some t)))
+    nots true h = good_negating s w t ((bytes_eq-Decides w not_word).0 h)
+    nots false h = opens (is_open t) refl h
+
+    dots : (c : Bool) → is_dot t ≡ c → Good (p ++ word w ∷ []) (Some t) (if c then goes (dotted w) st else (if bytes_eq w not_word then negating st (Some t) else (if is_open t then goes begun (arguments w [] ∷ st) else standing (constant_word w) st (Some t))))
+    dots true e = rw (dot_is t e) (holds_at (p ++ (word w ∷ symbol symbols.Dot ∷ [])) _ (simp append_assoc) (at_dotted w s))
+    dots false e = nots (bytes_eq w not_word) refl
 
 good_dotting : {st : List Frame} {p : List Tok} → Stands st p → (w : List ℕ) (t : Tok) → Good (p ++ word w ∷ symbol symbols.Dot ∷ []) (Some t) (dotting w st t)
 good_dotting {st} {p} s w (word n) = holds_at (p ++ (word w ∷ symbol symbols.Dot ∷ word n ∷ [])) _ (simp append_assoc) (at_have s (column w n))
@@ -258,9 +263,9 @@ good_dotting s w (symbol n) = alive (at_dotted w s)
 good_begun : {st : List Frame} {p : List Tok} → (f : List ℕ) → Stands st p → IsTrue (is_name f) → (t : Tok) → Good (p ++ word f ∷ symbol symbols.Open ∷ []) (Some t) (if is_close t then emptied (arguments f [] ∷ st) else begins t (arguments f [] ∷ st))
 good_begun {st} {p} f s n t = go (is_close t) refl
   where
-  go : (c : Bool) → is_close t ≡ c → Good (p ++ word f ∷ symbol symbols.Open ∷ []) (Some t) (if c then goes (have (call_of f [])) st else begins t (arguments f [] ∷ st))
-  go true e = rw (close_is t e) (holds_at (p ++ (word f ∷ symbol symbols.Open ∷ symbol symbols.Close ∷ [])) _ (simp append_assoc) (at_have s (call f n none)))
-  go false e = good_begins (on_arguments f s n start) t
+    go : (c : Bool) → is_close t ≡ c → Good (p ++ word f ∷ symbol symbols.Open ∷ []) (Some t) (if c then goes (have (call_of f [])) st else begins t (arguments f [] ∷ st))
+    go true e = rw (close_is t e) (holds_at (p ++ (word f ∷ symbol symbols.Open ∷ symbol symbols.Close ∷ [])) _ (simp append_assoc) (at_have s (call f n none)))
+    go false e = good_begins (on_arguments f s n start) t
 
 good_step : {s : Spot} {st : List Frame} {p : List Tok} → Holds s st p → (t : Option Tok) → Good p t (step s st t)
 unfolding step
@@ -301,7 +306,7 @@ says_onward p t ts (Err rest) h = record {
 }
 
 says_answered : (p : List Tok) (t : Tok) (ts : List Tok) (next : Spot → List Frame → Result (Expr × List Tok) (List Tok)) (a : Answer) → Good p (Some t) a
-  → ((s : Spot) (st : List Frame) → Holds s st (p ++ t ∷ []) → Tells (Behind (p ++ t ∷ [])) ts (next s st)) → Tells (Behind p) (t ∷ ts) (answered next (t ∷ ts) a)
+    → ((s : Spot) (st : List Frame) → Holds s st (p ++ t ∷ []) → Tells (Behind (p ++ t ∷ [])) ts (next s st)) → Tells (Behind p) (t ∷ ts) (answered next (t ∷ ts) a)
 says_answered p t ts next (goes s st) g again = says_onward p t ts (next s st) (again s st g)
 says_answered p t ts next (ends x) g again = record { front = []; whole = refl; spells = whole_behind p x g }
 says_answered p t ts next refuses g again = record { front = []; whole = refl; begun = begun_behind p g }

@@ -179,6 +179,16 @@ step (dotted side) st None = refuses
 step (dotted side) st (Some t) = dotting side st t
 step (have x) st t = having x st t
 
+-- what a token, or the end, does, and the tokens that are left then
+abbrev pub advanced : Answer → Tok → List Tok → Answer × List Tok
+advanced (goes s st) t ts = (goes s st, ts)
+advanced (ends x) t ts = (ends x, t ∷ ts)
+advanced refuses t ts = (refuses, t ∷ ts)
+
+abbrev pub turned : Spot → List Frame → List Tok → Answer × List Tok
+turned s st [] = (step s st None, [])
+turned s st (t ∷ ts) = advanced (step s st (Some t)) t ts
+
 abbrev pub finished : Answer → Result (Expr × List Tok) (List Tok)
 finished (goes s st) = Err []
 finished (ends x) = Ok (x, [])

@@ -1,8 +1,11 @@
 //! Tokens to trees.
 
 mod cursor;
-mod escapes;
+mod entries;
 mod expression;
+mod halt;
+mod heads;
+mod marks;
 mod operators;
 mod stack;
 mod steps;

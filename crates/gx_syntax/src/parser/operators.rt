@@ -1,7 +1,7 @@
 //! The levels of operators, and the tokens that are operators.
 
 ghost use Rattle.std.specs.Prelude.{◌≡◌};
-ghost use Rattle.gx_syntax.specs.Lexemes.{tok_of};
+ghost use Rattle.gx_syntax.specs.TokenTexts.{tok_of};
 ghost use Rattle.gx_syntax.specs.Operators as grammar;
 
 use crate::lexeme::Lexeme;

@@ -1,17 +1,16 @@
 //! One token of an expression.
 
 ghost use Rattle.std.specs.Prelude.{◌≡◌, ◌∷◌, ◌≤◌, [], None, Some, MatchOption, IfOk, option_map, true, false, bytes_eq};
-ghost use Rattle.gx_syntax.specs.Lexemes.{tok_of};
+ghost use Rattle.gx_syntax.specs.TokenTexts.{tok_of};
 ghost use Rattle.gx_syntax.specs.Operators.{not_word};
 ghost use Rattle.gx_syntax.specs.Grammar as grammar;
 ghost use Rattle.gx_syntax.specs.Reading as reading;
 ghost use Rattle.gx_syntax.specs.Answers.{answer_of};
 
-use crate::lexeme::Lexeme;
-use crate::parser::escapes::unescape;
+use crate::lexeme::{Lexeme, unescape};
+use crate::parser::marks::{is_close, is_comma, is_dot, is_minus, is_open};
 use crate::parser::operators::{left, level, operator};
 use crate::parser::stack::{Frame, Stack, Waiting, unwind};
-use crate::symbol::Symbol;
 use crate::tree::expr::{Binary, Expr, Unary};
 use gx_rows::{NoMemory, Text};
 use sqlite_items::Items;
@@ -41,51 +40,6 @@ pub(crate) enum Turn {
     Ends(Expr),
     /// The token is refused.
     Refuses,
-}
-
-fn is_dot(lexeme: Lexeme<'_>) -> bool
-    ensures { result ≡ reading.is_dot (tok_of lexeme.entry) }
-{
-    match lexeme {
-        Lexeme::Symbol(symbol) => symbol == Symbol::Dot,
-        _ => false,
-    }
-}
-
-fn is_open(lexeme: Lexeme<'_>) -> bool
-    ensures { result ≡ reading.is_open (tok_of lexeme.entry) }
-{
-    match lexeme {
-        Lexeme::Symbol(symbol) => symbol == Symbol::Open,
-        _ => false,
-    }
-}
-
-fn is_close(lexeme: Lexeme<'_>) -> bool
-    ensures { result ≡ reading.is_close (tok_of lexeme.entry) }
-{
-    match lexeme {
-        Lexeme::Symbol(symbol) => symbol == Symbol::Close,
-        _ => false,
-    }
-}
-
-fn is_comma(lexeme: Lexeme<'_>) -> bool
-    ensures { result ≡ reading.is_comma (tok_of lexeme.entry) }
-{
-    match lexeme {
-        Lexeme::Symbol(symbol) => symbol == Symbol::Comma,
-        _ => false,
-    }
-}
-
-fn is_minus(lexeme: Lexeme<'_>) -> bool
-    ensures { result ≡ reading.is_minus (tok_of lexeme.entry) }
-{
-    match lexeme {
-        Lexeme::Symbol(symbol) => symbol == Symbol::Minus,
-        _ => false,
-    }
 }
 
 fn is_not(word: &str) -> bool
@@ -176,12 +130,7 @@ fn after(stack: &mut Stack, lexeme: Lexeme<'_>, x: Expr) -> Result<Turn, NoMemor
 }
 
 /// Behind an operand: a token.
-fn passing(
-    alloc: Global,
-    stack: &mut Stack,
-    x: Expr,
-    lexeme: Lexeme<'_>,
-) -> Result<Turn, NoMemory>
+fn passing(alloc: Global, stack: &mut Stack, x: Expr, lexeme: Lexeme<'_>) -> Result<Turn, NoMemory>
     ensures { IfOk result (λ turn. answer_of turn stack.new ≡ reading.having x stack.old (Some (tok_of lexeme.entry))) }
 {
     match operator(lexeme) {
@@ -321,11 +270,19 @@ fn naming_last(alloc: Global, stack: &mut Stack, word: &str) -> Result<Turn, NoM
 }
 
 /// Behind a word and a dot.
-fn dotting(alloc: Global, side: Text, lexeme: Lexeme<'_>, stack: &mut Stack) -> Result<Turn, NoMemory>
+fn dotting(
+    alloc: Global,
+    side: Text,
+    lexeme: Lexeme<'_>,
+    stack: &mut Stack,
+) -> Result<Turn, NoMemory>
     ensures { IfOk result (λ turn. answer_of turn stack.new ≡ reading.dotting side stack.old (tok_of lexeme.entry)) }
 {
     match lexeme {
-        Lexeme::Word(word) => Ok(Turn::Goes(Spot::Have(Expr::Column(side, Text::of(alloc, word)?)))),
+        Lexeme::Word(word) => Ok(Turn::Goes(Spot::Have(Expr::Column(
+            side,
+            Text::of(alloc, word)?,
+        )))),
         Lexeme::Number(_) => Ok(Turn::Refuses),
         Lexeme::Quoted(_) => Ok(Turn::Refuses),
         Lexeme::Symbol(_) => Ok(Turn::Refuses),
