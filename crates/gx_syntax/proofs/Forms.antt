@@ -8,7 +8,7 @@ use Rattle.gx_syntax.specs.Reading.{goes_on}
 use Rattle.gx_syntax.specs.Readers.{made, one, seq, repeated, One, Made, Then, Many, Ends, Faithful}
 use Rattle.gx_syntax.specs.Parts as parts
 use Rattle.gx_syntax.specs.Parts.{meant}
-use Rattle.gx_syntax.specs.Forms.{Part, a_name, a_text, a_number, a_cut, a_neighbour, columns, sets, consts, named, merges, sends, condition, tests, oriented, active, printed, counted, Value, SpellsPart, read_part, printed_of, counted_of, Form, fin, mark, say, part, Values, SpellsForm, read_form, head_of, form_of, stmt_of, SpellsBody, body, SpellsStatement, statement, SpellsSentence, sentence, SpellsScript, script}
+use Rattle.gx_syntax.specs.Forms.{Part, a_name, a_text, a_number, a_cut, a_neighbour, columns, sets, consts, named, merges, sends, condition, tests, oriented, active, printed, counted, Value, SpellsPart, read_part, printed_of, counted_of, Form, fin, mark, say, part, Values, SpellsForm, read_form, head_of, form_of, stmt_of, SpellsBody, body, SpellsSentence, sentence, SpellsScript, script}
 use Rattle.gx_syntax.proofs.Readers.{one_faithful, seq_faithful, repeated_faithful, Starts}
 use Rattle.gx_syntax.proofs.Parts.{nothing, nothing_on, sign_tok, sign_faithful, word_faithful, sign_starts, word_starts, then_starts, ends_at, apart_sign, apart_word, made_any, behind, last, listed_faithful, labelled_faithful, labelled_opens, const_faithful, const_opens, sends_go, sends_faithful, tests_go, tests_faithful, oriented_go, oriented_faithful, active_go, active_faithful}
 use Rattle.gx_syntax.proofs.Expressions.{expression_faithful}
@@ -33,14 +33,14 @@ part_faithful a_number = one_faithful parts.number_value (number 0) (pos 0) refl
 part_faithful a_cut = one_faithful (meant parts.cut_of) (word (codes "oned")) _ refl
 part_faithful a_neighbour = one_faithful (meant parts.neighbour_of) (word (codes "in")) _ refl
 part_faithful columns = listed_faithful parts.SpellsColumn parts.a_column nothing
-  (labelled_faithful parts.column (One (meant parts.kind_of)) (one (meant parts.kind_of)) nothing (one_faithful (meant parts.kind_of) (word (codes "int")) _ refl)) (labelled_opens parts.column (One (meant parts.kind_of))) refl refl
+    (labelled_faithful parts.column (One (meant parts.kind_of)) (one (meant parts.kind_of)) nothing (one_faithful (meant parts.kind_of) (word (codes "int")) _ refl)) (labelled_opens parts.column (One (meant parts.kind_of))) refl refl
 part_faithful sets = listed_faithful parts.SpellsSet parts.a_set goes_on
-  (labelled_faithful parts.set (Spells 1) _ goes_on expression_faithful) (labelled_opens parts.set (Spells 1)) refl refl
+    (labelled_faithful parts.set (Spells 1) _ goes_on expression_faithful) (labelled_opens parts.set (Spells 1)) refl refl
 part_faithful consts = listed_faithful parts.SpellsConst parts.a_const nothing const_faithful const_opens refl refl
 part_faithful named = listed_faithful parts.SpellsNamed parts.a_named_const nothing
-  (labelled_faithful parts.named_const parts.SpellsConst parts.a_const nothing const_faithful) (labelled_opens parts.named_const parts.SpellsConst) refl refl
+    (labelled_faithful parts.named_const parts.SpellsConst parts.a_const nothing const_faithful) (labelled_opens parts.named_const parts.SpellsConst) refl refl
 part_faithful merges = listed_faithful parts.SpellsMerge parts.a_merge nothing
-  (labelled_faithful parts.merge (One (meant parts.merge_of)) (one (meant parts.merge_of)) nothing (one_faithful (meant parts.merge_of) (word (codes "sum")) _ refl)) (labelled_opens parts.merge (One (meant parts.merge_of))) refl refl
+    (labelled_faithful parts.merge (One (meant parts.merge_of)) (one (meant parts.merge_of)) nothing (one_faithful (meant parts.merge_of) (word (codes "sum")) _ refl)) (labelled_opens parts.merge (One (meant parts.merge_of))) refl refl
 part_faithful sends = sends_faithful
 part_faithful condition = expression_faithful
 part_faithful tests = tests_faithful
@@ -119,21 +119,21 @@ form_faithful fin e = made_any nothing tt
 form_faithful (mark s f) e = behind (One (sign s)) (λ _. SpellsForm f) (one (sign s)) (λ _. read_form f) (go_form f) (sign_faithful s) (λ _. form_faithful f e)
 form_faithful (say w f) e = behind (One (keyword w)) (λ _. SpellsForm f) (one (keyword w)) (λ _. read_form f) (go_form f) (word_faithful w) (λ _. form_faithful f e)
 form_faithful (part p fin) e = seq_faithful (SpellsPart p) (λ x. Pair p fin x) (read_part p) (λ x. seq (made tt) (λ y. made (x, y))) (go_part p) (go_part p) (part_faithful p)
-  (λ x. last (Made tt) (made tt) (go_part p) (λ y. (x, y)) (made_any (go_part p) tt)) (λ x v rest y d h. rw (d.whole, d.head.empty, d.tail.empty) h)
+    (λ x. last (Made tt) (made tt) (go_part p) (λ y. (x, y)) (made_any (go_part p) tt)) (λ x v rest y d h. rw (d.whole, d.head.empty, d.tail.empty) h)
 form_faithful (part p (mark s f)) e =
-  let suited = both_left (not (go_part p (sign_tok s))) (suits f) e in
-  seq_faithful (SpellsPart p) (λ x. Pair p (mark s f) x) (read_part p) (λ x. seq (read_form (mark s f)) (λ y. made (x, y))) (go_part p) (go_form f) (part_faithful p)
+    let suited = both_left (not (go_part p (sign_tok s))) (suits f) e in
+    seq_faithful (SpellsPart p) (λ x. Pair p (mark s f) x) (read_part p) (λ x. seq (read_form (mark s f)) (λ y. made (x, y))) (go_part p) (go_form f) (part_faithful p)
     (pair_faithful p (mark s f) (form_faithful (mark s f) (both_right (not (go_part p (sign_tok s))) (suits f) e)))
     (λ x v rest y d h. ends_at (is_sign s) (go_part p) (apart_sign s (go_part p) (not_true (go_part p (sign_tok s)) suited)) v rest
-      (then_starts (SpellsForm (mark s f)) (λ z. Made (x, z)) (is_sign s) (then_starts (One (sign s)) (λ _. SpellsForm f) (is_sign s) (sign_starts s)) v y d))
+    (then_starts (SpellsForm (mark s f)) (λ z. Made (x, z)) (is_sign s) (then_starts (One (sign s)) (λ _. SpellsForm f) (is_sign s) (sign_starts s)) v y d))
 form_faithful (part p (say w f)) e =
-  let suited = both_left (not (go_part p (word w))) (suits f) e in
-  seq_faithful (SpellsPart p) (λ x. Pair p (say w f) x) (read_part p) (λ x. seq (read_form (say w f)) (λ y. made (x, y))) (go_part p) (go_form f) (part_faithful p)
+    let suited = both_left (not (go_part p (word w))) (suits f) e in
+    seq_faithful (SpellsPart p) (λ x. Pair p (say w f) x) (read_part p) (λ x. seq (read_form (say w f)) (λ y. made (x, y))) (go_part p) (go_form f) (part_faithful p)
     (pair_faithful p (say w f) (form_faithful (say w f) (both_right (not (go_part p (word w))) (suits f) e)))
     (λ x v rest y d h. ends_at (is_word w) (go_part p) (apart_word w (go_part p) (not_true (go_part p (word w)) suited)) v rest
-      (then_starts (SpellsForm (say w f)) (λ z. Made (x, z)) (is_word w) (then_starts (One (keyword w)) (λ _. SpellsForm f) (is_word w) (word_starts w)) v y d))
+    (then_starts (SpellsForm (say w f)) (λ z. Made (x, z)) (is_word w) (then_starts (One (keyword w)) (λ _. SpellsForm f) (is_word w) (word_starts w)) v y d))
 form_faithful (part p (part q f)) e =
-  seq_faithful (SpellsPart p) (λ x. Pair p (part q f) x) (read_part p) (λ x. seq (read_form (part q f)) (λ y. made (x, y))) (go_part p) (go_form (part q f)) (part_faithful p)
+    seq_faithful (SpellsPart p) (λ x. Pair p (part q f) x) (read_part p) (λ x. seq (read_form (part q f)) (λ y. made (x, y))) (go_part p) (go_form (part q f)) (part_faithful p)
     (pair_faithful p (part q f) (form_faithful (part q f) (both_right (closed p) (suits (part q f)) e)))
     (λ x v rest y d h. closed_ends p (both_left (closed p) (suits (part q f)) e) (v ++ rest))
 
@@ -162,4 +162,19 @@ finish_starts s w y d = then_starts (One (sign signs.Semicolon)) (λ _. Made s) 
 
 finished_body : (h : Head) → Faithful (Then (SpellsBody h) Finish) nothing (seq (body h) (λ s. seq (one (sign signs.Semicolon)) (λ _. made s)))
 finished_body h = seq_faithful (SpellsBody h) Finish (body h) (λ s. seq (one (sign signs.Semicolon)) (λ _. made s)) (go_form (form_of h)) nothing (body_faithful h) finish_faithful
-  (λ x v rest y d e. ends_at (is_sign signs.Semicolon) (go_form (form_of h)) (apart_sign signs.Semicolon (go_form (form_of h)) (ends_statement h)) v rest (finish_starts x v y d))
+    (λ x v rest y d e. ends_at (is_sign signs.Semicolon) (go_form (form_of h)) (apart_sign signs.Semicolon (go_form (form_of h)) (ends_statement h)) v rest (finish_starts x v y d))
+
+pub sentence_faithful : Faithful SpellsSentence nothing sentence
+unfolding sentence
+sentence_faithful = behind (One (meant head_of)) (λ h. Then (SpellsBody h) Finish) (one (meant head_of)) (λ h. seq (body h) (λ s. seq (one (sign signs.Semicolon)) (λ _. made s))) nothing
+    (one_faithful (meant head_of) (word (codes "print")) heads.Print refl) finished_body
+
+sentence_starts : (w : List Tok) (s : Stmt) → SpellsSentence w s → Starts (λ t. true) w
+sentence_starts w s d = record { head = d.head.token; tail = d.second; whole = d.whole ∙ ap (λ v. v ++ d.second) d.head.whole; passes = refl }
+
+abbrev pub script_go : Tok → Bool
+script_go t = nothing t || true
+
+pub script_faithful : Faithful SpellsScript script_go script
+unfolding script
+script_faithful = repeated_faithful SpellsSentence (λ t. true) sentence nothing sentence_faithful sentence_starts (λ t e. refl)

@@ -101,8 +101,8 @@ word_starts v w u d = record { head = d.token; tail = []; whole = d.whole; passe
 
 pub then_starts : {A B : Type 0} (L : List Tok → A → Type 0) (M : A → List Tok → B → Type 0) (test : Tok → Bool) → ((w : List Tok) (x : A) → L w x → Starts test w) → (w : List Tok) (y : B) → Then L M w y → Starts test w
 then_starts L M test h w y d =
-  let s = h d.first d.value d.head in
-  record { head = s.head; tail = s.tail ++ d.second; whole = d.whole ∙ ap (λ v. v ++ d.second) s.whole; passes = s.passes }
+    let s = h d.first d.value d.head in
+    record { head = s.head; tail = s.tail ++ d.second; whole = d.whole ∙ ap (λ v. v ++ d.second) s.whole; passes = s.passes }
 
 -- what begins with a token that a test takes goes on with none of these
 pub ends_at : (test go : Tok → Bool) → ((t : Tok) → test t ≡ true → go t ≡ false) → (w rest : List Tok) → Starts test w → Ends go (w ++ rest)
@@ -120,7 +120,7 @@ made_any go y = record { keeps = (made_faithful y).keeps; takes = λ w rest x h 
 
 -- a part that no token goes on, and then another
 pub behind : {A B : Type 0} (L : List Tok → A → Type 0) (M : A → List Tok → B → Type 0) (p : List Tok → Result (A × List Tok) (List Tok)) (f : A → List Tok → Result (B × List Tok) (List Tok)) (h : Tok → Bool)
-  → Faithful L nothing p → ((x : A) → Faithful (M x) h (f x)) → Faithful (Then L M) h (seq p f)
+    → Faithful L nothing p → ((x : A) → Faithful (M x) h (f x)) → Faithful (Then L M) h (seq p f)
 behind L M p f h P F = seq_faithful L M p f nothing h P F (λ x v rest y d e. nothing_on (v ++ rest))
 
 -- a part, and nothing more
@@ -151,7 +151,7 @@ module _ {A : Type 0} (L : List Tok → A → Type 0) (p : List Tok → Result (
   further_faithful : Faithful L g p → g (symbol symbols.Comma) ≡ false → Faithful (Many Comma) (λ t. g t || is_sign signs.Comma t) (further p)
   unfolding further
   further_faithful P e = repeated_faithful Comma (is_sign signs.Comma) (seq (one (sign signs.Comma)) (λ _. p)) g
-    (behind (One (sign signs.Comma)) (λ _. L) (one (sign signs.Comma)) (λ _. p) g (sign_faithful signs.Comma) (λ _. P)) comma_starts (apart_sign signs.Comma g e)
+      (behind (One (sign signs.Comma)) (λ _. L) (one (sign signs.Comma)) (λ _. p) g (sign_faithful signs.Comma) (λ _. P)) comma_starts (apart_sign signs.Comma g e)
 
   abbrev Rest : A → List Tok → List A → Type 0
   Rest x = Then (Many Comma) (λ xs. Then (One (sign signs.Close)) (λ _. Made (x ∷ xs)))
@@ -161,19 +161,19 @@ module _ {A : Type 0} (L : List Tok → A → Type 0) (p : List Tok → Result (
 
   rest_faithful : Faithful L g p → g (symbol symbols.Comma) ≡ false → g (symbol symbols.Close) ≡ false → (x : A) → Faithful (Rest x) nothing (seq (further p) (λ xs. seq (one (sign signs.Close)) (λ _. made (x ∷ xs))))
   rest_faithful P e c x = seq_faithful (Many Comma) (λ xs. Then (One (sign signs.Close)) (λ _. Made (x ∷ xs))) (further p) (λ xs. seq (one (sign signs.Close)) (λ _. made (x ∷ xs)))
-    (λ t. g t || is_sign signs.Comma t) nothing (further_faithful P e) (λ xs. closes (x ∷ xs))
-    (λ xs v rest y d h. ends_at (is_sign signs.Close) (λ t. g t || is_sign signs.Comma t) (apart_sign signs.Close (λ t. g t || is_sign signs.Comma t) (close_false c)) v rest (closes_starts (x ∷ xs) v y d))
+      (λ t. g t || is_sign signs.Comma t) nothing (further_faithful P e) (λ xs. closes (x ∷ xs))
+      (λ xs v rest y d h. ends_at (is_sign signs.Close) (λ t. g t || is_sign signs.Comma t) (apart_sign signs.Close (λ t. g t || is_sign signs.Comma t) (close_false c)) v rest (closes_starts (x ∷ xs) v y d))
 
   rest_ends : g (symbol symbols.Comma) ≡ false → g (symbol symbols.Close) ≡ false → (x : A) {w : List Tok} {xs : List A} → Many Comma w xs → (v rest : List Tok) → Starts (is_sign signs.Close) v → Ends g ((w ++ v) ++ rest)
   rest_ends e c x none v rest s = ends_at (is_sign signs.Close) g (apart_sign signs.Close g c) v rest s
   rest_ends e c x (more {w = w} {ws = ws} {x = y} d ds) v rest s =
-    let begins = comma_starts w y d in
-    rw begins.whole (apart_sign signs.Comma g e begins.head begins.passes)
+      let begins = comma_starts w y d in
+      rw begins.whole (apart_sign signs.Comma g e begins.head begins.passes)
 
   some_faithful : Faithful L g p → g (symbol symbols.Comma) ≡ false → g (symbol symbols.Close) ≡ false
-    → Faithful (Then L Rest) nothing (seq p (λ x. seq (further p) (λ xs. seq (one (sign signs.Close)) (λ _. made (x ∷ xs)))))
+      → Faithful (Then L Rest) nothing (seq p (λ x. seq (further p) (λ xs. seq (one (sign signs.Close)) (λ _. made (x ∷ xs)))))
   some_faithful P e c = seq_faithful L Rest p (λ x. seq (further p) (λ xs. seq (one (sign signs.Close)) (λ _. made (x ∷ xs)))) g nothing P (rest_faithful P e c)
-    (λ x v rest y d h. rw d.whole (rest_ends e c x d.head d.second rest (closes_starts (x ∷ d.value) d.second y d.tail)))
+      (λ x v rest y d h. rw d.whole (rest_ends e c x d.head d.second rest (closes_starts (x ∷ d.value) d.second y d.tail)))
 
   not_closed : ((w : List Tok) (x : A) → L w x → Opens w) → (w : List Tok) (y : List A) → Then L Rest w y → (rest : List Tok) → Ends (is_sign signs.Close) (w ++ rest)
   not_closed h w y d rest = let s = h d.first d.value d.head in rw (d.whole, s.whole) s.no_close
@@ -181,17 +181,17 @@ module _ {A : Type 0} (L : List Tok → A → Type 0) (p : List Tok → Result (
   pub listed_faithful : Faithful L g p → ((w : List Tok) (x : A) → L w x → Opens w) → g (symbol symbols.Comma) ≡ false → g (symbol symbols.Close) ≡ false → Faithful (Listed L) nothing (listed p)
   unfolding Listed listed
   listed_faithful P opens e c = behind (One (sign signs.Open)) (λ _. Either (Then (One (sign signs.Close)) (λ _. Made [])) (Then L Rest)) (one (sign signs.Open))
-    (λ _. choose (is_sign signs.Close) (seq (one (sign signs.Close)) (λ _. made [])) (seq p (λ x. seq (further p) (λ xs. seq (one (sign signs.Close)) (λ _. made (x ∷ xs))))))
-    nothing (sign_faithful signs.Open)
-    (λ _. choose_faithful (Then (One (sign signs.Close)) (λ _. Made [])) (Then L Rest) (is_sign signs.Close) (seq (one (sign signs.Close)) (λ _. made [])) (seq p (λ x. seq (further p) (λ xs. seq (one (sign signs.Close)) (λ _. made (x ∷ xs)))))
+      (λ _. choose (is_sign signs.Close) (seq (one (sign signs.Close)) (λ _. made [])) (seq p (λ x. seq (further p) (λ xs. seq (one (sign signs.Close)) (λ _. made (x ∷ xs))))))
+      nothing (sign_faithful signs.Open)
+      (λ _. choose_faithful (Then (One (sign signs.Close)) (λ _. Made [])) (Then L Rest) (is_sign signs.Close) (seq (one (sign signs.Close)) (λ _. made [])) (seq p (λ x. seq (further p) (λ xs. seq (one (sign signs.Close)) (λ _. made (x ∷ xs)))))
       nothing nothing nothing (closes []) (some_faithful P e c) (λ rest h. h) (λ rest h. h) (closes_starts []) (λ w y d rest h. not_closed opens w y d rest))
 
 -- `NAME : entry`
 pub labelled_faithful : {A B : Type 0} (make : List ℕ → A → B) (L : List Tok → A → Type 0) (p : List Tok → Result (A × List Tok) (List Tok)) (g : Tok → Bool) → Faithful L g p → Faithful (Labelled make L) g (labelled make p)
 unfolding Labelled labelled
 labelled_faithful make L p g P = behind (One name_of) (λ name. Then (One (sign signs.Colon)) (λ _. Then L (λ x. Made (make name x)))) (one name_of) (λ name. seq (one (sign signs.Colon)) (λ _. seq p (λ x. made (make name x)))) g
-  (one_faithful name_of (word []) [] refl)
-  (λ name. behind (One (sign signs.Colon)) (λ _. Then L (λ x. Made (make name x))) (one (sign signs.Colon)) (λ _. seq p (λ x. made (make name x))) g (sign_faithful signs.Colon) (λ _. last L p g (make name) P))
+    (one_faithful name_of (word []) [] refl)
+    (λ name. behind (One (sign signs.Colon)) (λ _. Then L (λ x. Made (make name x))) (one (sign signs.Colon)) (λ _. seq p (λ x. made (make name x))) g (sign_faithful signs.Colon) (λ _. last L p g (make name) P))
 
 name_opens : (t : Tok) (w : List ℕ) → name_of t ≡ Some w → is_sign signs.Close t ≡ false
 name_opens (word v) w e = refl
@@ -235,11 +235,11 @@ abbrev pub optional_go : (Tok → Bool) → (Tok → Bool) → Tok → Bool
 optional_go g starts t = g t || starts t
 
 pub optional_faithful : {A : Type 0} (L : List Tok → A → Type 0) (p : List Tok → Result (A × List Tok) (List Tok)) (g starts : Tok → Bool) → Faithful L g p → ((w : List Tok) (x : A) → L w x → Starts starts w)
-  → Faithful (Optional L) (optional_go g starts) (optional starts p)
+    → Faithful (Optional L) (optional_go g starts) (optional starts p)
 unfolding Optional optional
 optional_faithful L p g starts P heads = choose_faithful (Then L (λ x. Made (Some x))) (Made None) starts (seq p (λ x. made (Some x))) (made None)
-  (optional_go g starts) g nothing (last L p g (λ x. Some x) P) (made_any nothing None) (λ rest e. ends_left g starts rest e) (λ rest e. nothing_on rest)
-  (then_starts L (λ x. Made (Some x)) starts heads) (λ w x d rest e. rw d.empty (ends_right g starts rest e))
+    (optional_go g starts) g nothing (last L p g (λ x. Some x) P) (made_any nothing None) (λ rest e. ends_left g starts rest e) (λ rest e. nothing_on rest)
+    (then_starts L (λ x. Made (Some x)) starts heads) (λ w x d rest e. rw d.empty (ends_right g starts rest e))
 
 -- a word of an optional part begins with its first word, or is empty
 optional_ends : {A : Type 0} (L : List Tok → A → Type 0) (go starts : Tok → Bool) → ((w : List Tok) (x : A) → L w x → Starts starts w) → ((t : Tok) → starts t ≡ true → go t ≡ false) → (w rest : List Tok) (o : Option A) → Optional L w o → Ends go rest → Ends go (w ++ rest)
@@ -266,13 +266,13 @@ send_go = optional_go goes_on (is_word (codes "when"))
 pub send_faithful : Faithful SpellsSend send_go a_send
 unfolding SpellsSend a_send
 send_faithful = behind (One (keyword (codes "to"))) (λ _. Then (One (meant side_of)) (λ to. Then (Listed (Spells 1)) (λ values. Then (Optional (Led (codes "when"))) (λ when. Made (send to values when)))))
-  (one (keyword (codes "to"))) (λ _. seq (one (meant side_of)) (λ to. seq (listed expression) (λ values. seq (optional (is_word (codes "when")) (led (codes "when"))) (λ when. made (send to values when))))) send_go (word_faithful (codes "to"))
-  (λ _. behind (One (meant side_of)) (λ to. Then (Listed (Spells 1)) (λ values. Then (Optional (Led (codes "when"))) (λ when. Made (send to values when))))
+    (one (keyword (codes "to"))) (λ _. seq (one (meant side_of)) (λ to. seq (listed expression) (λ values. seq (optional (is_word (codes "when")) (led (codes "when"))) (λ when. made (send to values when))))) send_go (word_faithful (codes "to"))
+    (λ _. behind (One (meant side_of)) (λ to. Then (Listed (Spells 1)) (λ values. Then (Optional (Led (codes "when"))) (λ when. Made (send to values when))))
     (one (meant side_of)) (λ to. seq (listed expression) (λ values. seq (optional (is_word (codes "when")) (led (codes "when"))) (λ when. made (send to values when)))) send_go (one_faithful (meant side_of) (word (codes "src")) _ refl)
     (λ to. behind (Listed (Spells 1)) (λ values. Then (Optional (Led (codes "when"))) (λ when. Made (send to values when)))
-      (listed expression) (λ values. seq (optional (is_word (codes "when")) (led (codes "when"))) (λ when. made (send to values when))) send_go expressions_faithful
-      (λ values. last (Optional (Led (codes "when"))) (optional (is_word (codes "when")) (led (codes "when"))) send_go (send to values)
-        (optional_faithful (Led (codes "when")) (led (codes "when")) goes_on (is_word (codes "when")) (led_faithful (codes "when")) (led_starts (codes "when"))))))
+    (listed expression) (λ values. seq (optional (is_word (codes "when")) (led (codes "when"))) (λ when. made (send to values when))) send_go expressions_faithful
+    (λ values. last (Optional (Led (codes "when"))) (optional (is_word (codes "when")) (led (codes "when"))) send_go (send to values)
+    (optional_faithful (Led (codes "when")) (led (codes "when")) goes_on (is_word (codes "when")) (led_faithful (codes "when")) (led_starts (codes "when"))))))
 
 send_starts : (w : List Tok) (x : Send) → SpellsSend w x → Starts (is_word (codes "to")) w
 unfolding SpellsSend
@@ -288,31 +288,31 @@ sends_end (more {w} {ws} {x} d ds) rest e = let s = send_starts w x d in rw s.wh
 pub sends_faithful : Faithful SpellsSends sends_go sends
 unfolding SpellsSends sends
 sends_faithful = seq_faithful SpellsSend (λ x. Then (Many SpellsSend) (λ xs. Made (x ∷ xs))) a_send (λ x. seq (repeated (is_word (codes "to")) a_send) (λ xs. made (x ∷ xs))) send_go sends_go send_faithful
-  (λ x. last (Many SpellsSend) (repeated (is_word (codes "to")) a_send) sends_go (λ xs. x ∷ xs)
+    (λ x. last (Many SpellsSend) (repeated (is_word (codes "to")) a_send) sends_go (λ xs. x ∷ xs)
     (repeated_faithful SpellsSend (is_word (codes "to")) a_send send_go send_faithful send_starts (apart_word (codes "to") send_go refl)))
-  (λ x v rest y d e. rw (d.whole, d.tail.empty, append-nil) (sends_end d.head rest e))
+    (λ x v rest y d e. rw (d.whole, d.tail.empty, append-nil) (sends_end d.head rest e))
 
 -- the tests of a subgraph
 abbrev pub tests_go : Tok → Bool
 tests_go = optional_go goes_on (is_word (codes "edges"))
 
 tests_first : Faithful {A = Option Expr × Option Expr} (Then (Led (codes "vertices")) (λ v. Then (Optional (Led (codes "edges"))) (λ e. Made (Some v, e)))) tests_go
-  (seq (led (codes "vertices")) (λ v. seq (optional (is_word (codes "edges")) (led (codes "edges"))) (λ e. made (Some v, e))))
+    (seq (led (codes "vertices")) (λ v. seq (optional (is_word (codes "edges")) (led (codes "edges"))) (λ e. made (Some v, e))))
 tests_first = seq_faithful (Led (codes "vertices")) (λ v. Then (Optional (Led (codes "edges"))) (λ e. Made (Some v, e))) (led (codes "vertices")) (λ v. seq (optional (is_word (codes "edges")) (led (codes "edges"))) (λ e. made (Some v, e)))
-  goes_on tests_go (led_faithful (codes "vertices"))
-  (λ v. last (Optional (Led (codes "edges"))) (optional (is_word (codes "edges")) (led (codes "edges"))) tests_go (λ e. (Some v, e))
+    goes_on tests_go (led_faithful (codes "vertices"))
+    (λ v. last (Optional (Led (codes "edges"))) (optional (is_word (codes "edges")) (led (codes "edges"))) tests_go (λ e. (Some v, e))
     (optional_faithful (Led (codes "edges")) (led (codes "edges")) goes_on (is_word (codes "edges")) (led_faithful (codes "edges")) (led_starts (codes "edges"))))
-  (λ x v rest y d e. rw (d.whole, d.tail.empty, append-nil)
+    (λ x v rest y d e. rw (d.whole, d.tail.empty, append-nil)
     (optional_ends (Led (codes "edges")) goes_on (is_word (codes "edges")) (led_starts (codes "edges")) (apart_word (codes "edges") goes_on refl) d.first rest d.value d.head (ends_left goes_on (is_word (codes "edges")) rest e)))
 
 pub tests_faithful : Faithful SpellsTests tests_go tests
 unfolding SpellsTests tests
 tests_faithful = choose_faithful (Then (Led (codes "vertices")) (λ v. Then (Optional (Led (codes "edges"))) (λ e. Made (Some v, e)))) (Then (Led (codes "edges")) (λ e. Made (None, Some e))) (is_word (codes "vertices"))
-  (seq (led (codes "vertices")) (λ v. seq (optional (is_word (codes "edges")) (led (codes "edges"))) (λ e. made (Some v, e)))) (seq (led (codes "edges")) (λ e. made (None, Some e)))
-  tests_go tests_go goes_on tests_first (last (Led (codes "edges")) (led (codes "edges")) goes_on (λ e. (None, Some e)) (led_faithful (codes "edges")))
-  (λ rest e. e) (λ rest e. ends_left goes_on (is_word (codes "edges")) rest e)
-  (then_starts (Led (codes "vertices")) _ (is_word (codes "vertices")) (led_starts (codes "vertices")))
-  (λ w x d rest e. ends_at (is_word (codes "edges")) (is_word (codes "vertices")) (apart_word (codes "edges") (is_word (codes "vertices")) refl) w rest (then_starts (Led (codes "edges")) _ (is_word (codes "edges")) (led_starts (codes "edges")) w x d))
+    (seq (led (codes "vertices")) (λ v. seq (optional (is_word (codes "edges")) (led (codes "edges"))) (λ e. made (Some v, e)))) (seq (led (codes "edges")) (λ e. made (None, Some e)))
+    tests_go tests_go goes_on tests_first (last (Led (codes "edges")) (led (codes "edges")) goes_on (λ e. (None, Some e)) (led_faithful (codes "edges")))
+    (λ rest e. e) (λ rest e. ends_left goes_on (is_word (codes "edges")) rest e)
+    (then_starts (Led (codes "vertices")) _ (is_word (codes "vertices")) (led_starts (codes "vertices")))
+    (λ w x d rest e. ends_at (is_word (codes "edges")) (is_word (codes "vertices")) (apart_word (codes "edges") (is_word (codes "vertices")) refl) w rest (then_starts (Led (codes "edges")) _ (is_word (codes "edges")) (led_starts (codes "edges")) w x d))
 
 -- `[ oriented ]` and `[ active DIR ]`
 abbrev pub oriented_go : Tok → Bool
@@ -321,8 +321,8 @@ oriented_go = is_word (codes "oriented")
 pub oriented_faithful : Faithful SpellsOriented oriented_go oriented
 unfolding SpellsOriented oriented
 oriented_faithful = choose_faithful (Then (One (keyword (codes "oriented"))) (λ _. Made true)) (Made false) (is_word (codes "oriented")) (seq (one (keyword (codes "oriented"))) (λ _. made true)) (made false)
-  oriented_go nothing nothing (last (One (keyword (codes "oriented"))) (one (keyword (codes "oriented"))) nothing (λ _. true) (word_faithful (codes "oriented"))) (made_any nothing false)
-  (λ rest e. nothing_on rest) (λ rest e. nothing_on rest) (then_starts (One (keyword (codes "oriented"))) _ (is_word (codes "oriented")) (word_starts (codes "oriented"))) (λ w x d rest e. rw d.empty e)
+    oriented_go nothing nothing (last (One (keyword (codes "oriented"))) (one (keyword (codes "oriented"))) nothing (λ _. true) (word_faithful (codes "oriented"))) (made_any nothing false)
+    (λ rest e. nothing_on rest) (λ rest e. nothing_on rest) (then_starts (One (keyword (codes "oriented"))) _ (is_word (codes "oriented")) (word_starts (codes "oriented"))) (λ w x d rest e. rw d.empty e)
 
 abbrev pub active_go : Tok → Bool
 active_go = is_word (codes "active")
@@ -330,7 +330,7 @@ active_go = is_word (codes "active")
 pub active_faithful : Faithful SpellsActive active_go active
 unfolding SpellsActive active
 active_faithful = choose_faithful (Then (One (keyword (codes "active"))) (λ _. One (meant active_of))) (Made actives.Either) (is_word (codes "active")) (seq (one (keyword (codes "active"))) (λ _. one (meant active_of))) (made actives.Either)
-  active_go nothing nothing
-  (behind (One (keyword (codes "active"))) (λ _. One (meant active_of)) (one (keyword (codes "active"))) (λ _. one (meant active_of)) nothing (word_faithful (codes "active")) (λ _. one_faithful (meant active_of) (word (codes "out")) actives.Out refl))
-  (made_any nothing actives.Either)
-  (λ rest e. nothing_on rest) (λ rest e. nothing_on rest) (then_starts (One (keyword (codes "active"))) _ (is_word (codes "active")) (word_starts (codes "active"))) (λ w x d rest e. rw d.empty e)
+    active_go nothing nothing
+    (behind (One (keyword (codes "active"))) (λ _. One (meant active_of)) (one (keyword (codes "active"))) (λ _. one (meant active_of)) nothing (word_faithful (codes "active")) (λ _. one_faithful (meant active_of) (word (codes "out")) actives.Out refl))
+    (made_any nothing actives.Either)
+    (λ rest e. nothing_on rest) (λ rest e. nothing_on rest) (then_starts (One (keyword (codes "active"))) _ (is_word (codes "active")) (word_starts (codes "active"))) (λ w x d rest e. rw d.empty e)

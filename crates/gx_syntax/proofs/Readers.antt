@@ -247,12 +247,12 @@ module _ {T A : Type 0} (L M : List T → A → Type 0) (test : T → Bool) (p q
   chooses_second (t ∷ ts) e = rw e refl
 
   pub choose_faithful : (go g h : T → Bool) → Faithful L g p → Faithful M h q → ((rest : List T) → Ends go rest → Ends g rest) → ((rest : List T) → Ends go rest → Ends h rest) → ((w : List T) (x : A) → L w x → Starts test w)
-    → ((w : List T) (x : A) → M w x → (rest : List T) → Ends go rest → Ends test (w ++ rest)) → Faithful (Either L M) go (choose test p q)
+      → ((w : List T) (x : A) → M w x → (rest : List T) → Ends go rest → Ends test (w ++ rest)) → Faithful (Either L M) go (choose test p q)
   choose_faithful go g h P Q to_g to_h heads apart = record { keeps = choose_keeps P.keeps Q.keeps; takes = takes }
     where
-    takes : Takes (Either L M) go (choose test p q)
-    takes w rest x (inl d) e = chooses_first w (heads w x d) rest ∙ P.takes w rest x d (to_g rest e)
-    takes w rest x (inr d) e = chooses_second (w ++ rest) (apart w x d rest e) ∙ Q.takes w rest x d (to_h rest e)
+      takes : Takes (Either L M) go (choose test p q)
+      takes w rest x (inl d) e = chooses_first w (heads w x d) rest ∙ P.takes w rest x d (to_g rest e)
+      takes w rest x (inr d) e = chooses_second (w ++ rest) (apart w x d rest e) ∙ Q.takes w rest x d (to_h rest e)
 
 -- a reader again and again
 module _ {T A : Type 0} (L : List T → A → Type 0) (starts : T → Bool) (p : List T → Result (A × List T) (List T)) where

@@ -266,19 +266,12 @@ SpellsBody h = Then (SpellsForm (form_of h)) (λ v. Made (stmt_of h v))
 unfoldable pub body : Head → List Tok → Result (Stmt × List Tok) (List Tok)
 body h = seq (read_form (form_of h)) (λ v. made (stmt_of h v))
 
--- a statement
-abbrev pub SpellsStatement : List Tok → Stmt → Type 0
-SpellsStatement = Then (One (meant head_of)) SpellsBody
-
-unfoldable pub statement : List Tok → Result (Stmt × List Tok) (List Tok)
-statement = seq (one (meant head_of)) body
-
 -- a statement and its `;`
 abbrev pub SpellsSentence : List Tok → Stmt → Type 0
-SpellsSentence = Then SpellsStatement (λ s. Then (One (sign signs.Semicolon)) (λ _. Made s))
+SpellsSentence = Then (One (meant head_of)) (λ h. Then (SpellsBody h) (λ s. Then (One (sign signs.Semicolon)) (λ _. Made s)))
 
 unfoldable pub sentence : List Tok → Result (Stmt × List Tok) (List Tok)
-sentence = seq statement (λ s. seq (one (sign signs.Semicolon)) (λ _. made s))
+sentence = seq (one (meant head_of)) (λ h. seq (body h) (λ s. seq (one (sign signs.Semicolon)) (λ _. made s)))
 
 -- the tokens that spell a script: statements, each with its `;`
 abbrev pub SpellsScript : List Tok → List Stmt → Type 0

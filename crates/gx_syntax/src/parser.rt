@@ -9,3 +9,4 @@ mod marks;
 mod operators;
 mod stack;
 mod steps;
+mod words;
