@@ -1,5 +1,8 @@
 //! Where a script is refused, and why.
 
+ghost use Rattle.std.specs.Prelude.{◌≡◌};
+ghost use Rattle.gx_syntax.specs.declared.syntax_kind.SyntaxStop.TheVariants as stops;
+
 use gx_rows::NoMemory;
 use std::alloc::{AllocError, AllocFailed};
 
@@ -33,18 +36,24 @@ pub enum SyntaxStop {
 }
 
 impl From<NoMemory> for SyntaxStop {
+    ghost from_gives = { λ _ stop. stop ≡ stops.NoMemory };
+
     fn from(_error: NoMemory) -> SyntaxStop {
         SyntaxStop::NoMemory
     }
 }
 
 impl From<AllocError> for SyntaxStop {
+    ghost from_gives = { λ _ stop. stop ≡ stops.NoMemory };
+
     fn from(_error: AllocError) -> SyntaxStop {
         SyntaxStop::NoMemory
     }
 }
 
 impl<T: Drop> From<AllocFailed<T>> for SyntaxStop {
+    ghost from_gives = { λ _ stop. stop ≡ stops.NoMemory };
+
     fn from(_error: AllocFailed<T>) -> SyntaxStop {
         SyntaxStop::NoMemory
     }
