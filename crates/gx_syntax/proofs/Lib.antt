@@ -4,3 +4,9 @@ pub mod Complete
 pub mod Local
 pub mod Sound
 pub mod Expressions
+pub mod LexingLemmas
+pub mod ProperLemmas
+pub mod QuoteLemmas
+pub mod ReaderLemmas
+pub mod SymbolLemmas
+pub mod TakenLemmas

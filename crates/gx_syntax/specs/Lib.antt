@@ -1,3 +1,10 @@
+pub mod Left
+pub mod Lexing
+pub mod Proper
+pub mod Quotes
+pub mod Symbols
+pub mod Taking
+pub mod TokenTexts
 pub mod Toks
 pub mod Lexemes
 pub mod Operators

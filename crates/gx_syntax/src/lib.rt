@@ -6,13 +6,21 @@
 //! the plan and the printer of scripts read the tree.
 #![tactic(auto)]
 
+mod escapes;
 mod lexeme;
 mod parser;
+mod quote;
+mod reader;
+mod runs;
 mod symbol;
 mod syntax_kind;
+mod token;
+mod tokens;
 mod tree;
 
 pub use syntax_kind::{SyntaxKind, SyntaxStop};
+pub use token::{Token, TokenKind};
+pub use tokens::Tokens;
 pub use tree::constant::{Const, NamedConst};
 pub use tree::expr::{Binary, Expr, Unary};
 pub use tree::parts::{Column, Merge, Send, Set};
