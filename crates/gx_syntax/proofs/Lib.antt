@@ -10,3 +10,4 @@ pub mod QuoteLemmas
 pub mod ReaderLemmas
 pub mod SymbolLemmas
 pub mod TakenLemmas
+pub mod ShownLemmas

@@ -12,3 +12,4 @@ pub mod Grammar
 pub mod Reading
 pub mod Answers
 pub mod Readers
+pub mod Shown

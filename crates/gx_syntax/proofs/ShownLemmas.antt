@@ -1,0 +1,174 @@
+-- What is shown of an expression spells it, with the fewest tokens.
+use Rattle.std.proofs.Common.{◌≡◌, ℕ, suc, zero, ◌<◌, ◌≤◌, ◌+◌, Bool, true, false, if◌then◌else◌, List, [], ◌∷◌, ◌++◌, length, map, refl, sym, ◌∙◌, ap, subst, append_assoc, length-append, arith, nat_le, pos, codes}
+use Rattle.std.proofs.lemmas.Bool.{leb-true, le-leb}
+use Rattle.std.proofs.lemmas.List.{append-nil}
+use Rattle.gx_syntax.specs.Toks.{Tok, word, number, quoted, symbol}
+use Rattle.gx_syntax.specs.Operators.{level, left, right, outer, inner, spelled, spelled_before}
+use Rattle.gx_syntax.specs.Grammar.{number_of, quoted_of, truth_of, matched_of, column_of, call_of, unary_of, binary_of, Spells, above, between, before, constant, quotation, yes, no, matching, column, call, group, SpellsArguments, none, some, SpellsFront, start, onward}
+use Rattle.gx_syntax.specs.Shown.{grouped, listed_on, listed, shown_layer, shown, ShowsWhatIsSpelled, ShowsFewest}
+use Rattle.gx_syntax.proofs.Levels.{level-left, level-right, left-high, right-high, outer-inner, inner-high, lowered}
+use Rattle.gx_syntax.specs.declared.symbol.Symbol.TheVariants as symbols
+use Rattle.gx_syntax.specs.declared.tree.expr.Expr.{Expr}
+use Rattle.gx_syntax.specs.declared.tree.expr.Expr.TheOpen as layer
+use Rattle.gx_syntax.specs.declared.tree.expr.Expr.TheFolds.{fold-Expr, fold-roll-Expr}
+use Rattle.gx_syntax.specs.declared.tree.expr.Binary.{Binary}
+use Rattle.gx_syntax.specs.declared.tree.expr.Unary.{Unary}
+use Rattle.gx_syntax.specs.declared.tree.expr.Binary.TheVariants as binary
+use Rattle.gx_syntax.specs.declared.tree.expr.Unary.TheVariants as unary
+
+-- one layer of what is shown
+abbrev pub each : List Expr → List (ℕ → List Tok)
+each xs = map (fold-Expr (ℕ → List Tok) shown_layer) xs
+
+pub shown-number : (k n : ℕ) → shown k (number_of n) ≡ number n ∷ []
+shown-number k n = ap (λ (g : ℕ → List Tok). g k) (fold-roll-Expr (ℕ → List Tok) shown_layer (layer.Number (pos n)))
+
+pub shown-quoted : (k : ℕ) (s : List ℕ) → shown k (quoted_of s) ≡ quoted s ∷ []
+shown-quoted k s = ap (λ (g : ℕ → List Tok). g k) (fold-roll-Expr (ℕ → List Tok) shown_layer (layer.Quoted s))
+
+pub shown-yes : (k : ℕ) → shown k (truth_of true) ≡ word (codes "true") ∷ []
+shown-yes k = ap (λ (g : ℕ → List Tok). g k) (fold-roll-Expr (ℕ → List Tok) shown_layer (layer.Truth true))
+
+pub shown-no : (k : ℕ) → shown k (truth_of false) ≡ word (codes "false") ∷ []
+shown-no k = ap (λ (g : ℕ → List Tok). g k) (fold-roll-Expr (ℕ → List Tok) shown_layer (layer.Truth false))
+
+pub shown-matched : (k : ℕ) → shown k matched_of ≡ word (codes "matched") ∷ []
+shown-matched k = ap (λ (g : ℕ → List Tok). g k) (fold-roll-Expr (ℕ → List Tok) shown_layer layer.Matched)
+
+pub shown-column : (k : ℕ) (side name : List ℕ) → shown k (column_of side name) ≡ word side ∷ symbol symbols.Dot ∷ word name ∷ []
+shown-column k side name = ap (λ (g : ℕ → List Tok). g k) (fold-roll-Expr (ℕ → List Tok) shown_layer (layer.Column side name))
+
+pub shown-call : (k : ℕ) (name : List ℕ) (xs : List Expr) → shown k (call_of name xs) ≡ word name ∷ symbol symbols.Open ∷ listed (each xs) ++ symbol symbols.Close ∷ []
+shown-call k name xs = ap (λ (g : ℕ → List Tok). g k) (fold-roll-Expr (ℕ → List Tok) shown_layer (layer.Call name xs))
+
+pub shown-before : (k : ℕ) (o : Unary) (a : Expr) → shown k (unary_of o a) ≡ grouped k (outer o) (spelled_before o ∷ shown (inner o) a)
+shown-before k o a = ap (λ (g : ℕ → List Tok). g k) (fold-roll-Expr (ℕ → List Tok) shown_layer (layer.Unary o a))
+
+pub shown-between : (k : ℕ) (o : Binary) (a b : Expr) → shown k (binary_of o a b) ≡ grouped k (level o) (shown (left o) a ++ spelled o ∷ shown (right o) b)
+shown-between k o a b = ap (λ (g : ℕ → List Tok). g k) (fold-roll-Expr (ℕ → List Tok) shown_layer (layer.Binary o a b))
+
+-- arguments, each with a comma behind it
+abbrev fronted : List (ℕ → List Tok) → List Tok
+fronted [] = []
+fronted (x ∷ xs) = x 1 ++ symbol symbols.Comma ∷ fronted xs
+
+fronted-more : (xs : List (ℕ → List Tok)) (x : ℕ → List Tok) → fronted (xs ++ x ∷ []) ≡ fronted xs ++ x 1 ++ symbol symbols.Comma ∷ []
+fronted-more [] x = refl
+fronted-more (y ∷ ys) x = ap (λ l. y 1 ++ symbol symbols.Comma ∷ l) (fronted-more ys x) ∙ simp append_assoc
+
+listed_on-last : (xs : List (ℕ → List Tok)) (x : ℕ → List Tok) → listed_on (xs ++ x ∷ []) ≡ symbol symbols.Comma ∷ fronted xs ++ x 1
+listed_on-last [] x = rw append-nil refl
+listed_on-last (y ∷ ys) x = rw (append_assoc, listed_on-last ys x) refl
+
+listed-last : (xs : List (ℕ → List Tok)) (x : ℕ → List Tok) → listed (xs ++ x ∷ []) ≡ fronted xs ++ x 1
+listed-last [] x = append-nil (x 1)
+listed-last (y ∷ ys) x = rw (append_assoc, listed_on-last ys x) refl
+
+each-more : (xs : List Expr) (x : Expr) → each (xs ++ x ∷ []) ≡ each xs ++ fold-Expr (ℕ → List Tok) shown_layer x ∷ []
+each-more [] x = refl
+each-more (y ∷ ys) x = ap (λ l. fold-Expr (ℕ → List Tok) shown_layer y ∷ l) (each-more ys x)
+
+-- parentheses where they are needed
+grouped-spells : (k m : ℕ) (ts : List Tok) (x : Expr) → k ≤ 8 → 1 ≤ m → Spells m ts x → Spells k (grouped k m ts) x
+grouped-spells k m ts x high low d = go (nat_le k m) refl
+  where
+  go : (c : Bool) → nat_le k m ≡ c → Spells k (if c then ts else symbol symbols.Open ∷ ts ++ symbol symbols.Close ∷ []) x
+  go true e = lowered k m (leb-true k m e) d
+  go false e = lowered k 8 high (group (lowered 1 m low d))
+
+some-level : (o : Binary) → 1 ≤ level o
+some-level binary.Or = omega arith
+some-level _ = omega arith
+
+some-outer : (o : Unary) → 1 ≤ outer o
+some-outer unary.Not = omega arith
+some-outer unary.Minus = omega arith
+
+mutual
+  pub shown-spells : {l : ℕ} {ts : List Tok} {x : Expr} → Spells l ts x → (k : ℕ) → k ≤ 8 → Spells k (shown k x) x
+  shown-spells (above d) k h = shown-spells d k h
+  shown-spells (between {a} {b} o d e) k h =
+    rw (shown-between k o a b) (grouped-spells k (level o) _ _ h (some-level o) (between o (shown-spells d (left o) (left-high o)) (shown-spells e (right o) (right-high o))))
+  shown-spells (before {a} o d) k h =
+    rw (shown-before k o a) (grouped-spells k (outer o) _ _ h (some-outer o) (before o (shown-spells d (inner o) (inner-high o))))
+  shown-spells (constant n p) k h = rw (shown-number k n) (lowered k 8 h (constant n p))
+  shown-spells (quotation s) k h = rw (shown-quoted k s) (lowered k 8 h (quotation s))
+  shown-spells yes k h = rw (shown-yes k) (lowered k 8 h yes)
+  shown-spells no k h = rw (shown-no k) (lowered k 8 h no)
+  shown-spells matching k h = rw (shown-matched k) (lowered k 8 h matching)
+  shown-spells (column side name) k h = rw (shown-column k side name) (lowered k 8 h (column side name))
+  shown-spells (call {xs} name p d) k h = rw (shown-call k name xs) (lowered k 8 h (call name p (listed-spells d)))
+  shown-spells (group d) k h = shown-spells d k h
+
+  listed-spells : {ts : List Tok} {xs : List Expr} → SpellsArguments ts xs → SpellsArguments (listed (each xs)) xs
+  listed-spells none = none
+  listed-spells (some {xs} {x} f d) = rw (each-more xs x, listed-last (each xs) (fold-Expr (ℕ → List Tok) shown_layer x)) (some (fronted-spells f) (shown-spells d 1 (omega arith)))
+
+  fronted-spells : {ts : List Tok} {xs : List Expr} → SpellsFront ts xs → SpellsFront (fronted (each xs)) xs
+  fronted-spells start = start
+  fronted-spells (onward {xs} {x} f d) = rw (each-more xs x, fronted-more (each xs) (fold-Expr (ℕ → List Tok) shown_layer x)) (onward (fronted-spells f) (shown-spells d 1 (omega arith)))
+
+-- parentheses cost two tokens
+grouped-few : (k m : ℕ) (ts : List Tok) → length (grouped k m ts) ≤ length ts + 2
+grouped-few k m ts = go (nat_le k m)
+  where
+  go : (c : Bool) → length (if c then ts else symbol symbols.Open ∷ ts ++ symbol symbols.Close ∷ []) ≤ length ts + 2
+  go true = omega arith
+  go false = omega (arith, length-append ts (symbol symbols.Close ∷ []))
+
+grouped-none : (k m : ℕ) (ts : List Tok) → k ≤ m → grouped k m ts ≡ ts
+grouped-none k m ts h = let test : nat_le k m ≡ true = le-leb k m h in rw test refl
+
+grouped-more : (k m : ℕ) (ts : List Tok) (all : ℕ → List Tok) → ((j : ℕ) → all j ≡ grouped j m ts) → 1 ≤ m → length (all k) ≤ length (all 1) + 2
+grouped-more k m ts all is low = rw (is k, is 1, grouped-none 1 m ts low) (grouped-few k m ts)
+
+same-few : (k : ℕ) (ts : List Tok) (all : ℕ → List Tok) → ((j : ℕ) → all j ≡ ts) → length (all k) ≤ length (all 1) + 2
+same-few k ts all is = rw (is k, is 1) (omega arith)
+
+shown-few : {l : ℕ} {ts : List Tok} {x : Expr} → Spells l ts x → (k : ℕ) → length (shown k x) ≤ length (shown 1 x) + 2
+shown-few (above d) k = shown-few d k
+shown-few (between {a} {b} o d e) k = grouped-more k (level o) _ (λ j. shown j (binary_of o a b)) (λ j. shown-between j o a b) (some-level o)
+shown-few (before {a} o d) k = grouped-more k (outer o) _ (λ j. shown j (unary_of o a)) (λ j. shown-before j o a) (some-outer o)
+shown-few (constant n p) k = same-few k _ (λ j. shown j (number_of n)) (λ j. shown-number j n)
+shown-few (quotation s) k = same-few k _ (λ j. shown j (quoted_of s)) (λ j. shown-quoted j s)
+shown-few yes k = same-few k _ (λ j. shown j (truth_of true)) shown-yes
+shown-few no k = same-few k _ (λ j. shown j (truth_of false)) shown-no
+shown-few matching k = same-few k _ (λ j. shown j matched_of) shown-matched
+shown-few (column side name) k = same-few k _ (λ j. shown j (column_of side name)) (λ j. shown-column j side name)
+shown-few (call {xs} name p d) k = same-few k _ (λ j. shown j (call_of name xs)) (λ j. shown-call j name xs)
+shown-few (group d) k = shown-few d k
+
+mutual
+  pub shown-least : {l : ℕ} {ts : List Tok} {x : Expr} → Spells l ts x → (k : ℕ) → k ≤ l → length (shown k x) ≤ length ts
+  shown-least (above d) k h = shown-least d k (omega arith)
+  shown-least (between {ts} {us} {a} {b} o d e) k h =
+    rw (shown-between k o a b, grouped-none k (level o) _ h)
+      (omega (arith, length-append (shown (left o) a) (spelled o ∷ shown (right o) b), length-append ts (spelled o ∷ us), shown-least d (left o) (omega arith), shown-least e (right o) (omega arith)))
+  shown-least (before {ts} {a} o d) k h = rw (shown-before k o a, grouped-none k (outer o) _ h) (omega (arith, shown-least d (inner o) (omega arith)))
+  shown-least (constant n p) k h = rw (shown-number k n) (omega arith)
+  shown-least (quotation s) k h = rw (shown-quoted k s) (omega arith)
+  shown-least yes k h = rw (shown-yes k) (omega arith)
+  shown-least no k h = rw (shown-no k) (omega arith)
+  shown-least matching k h = rw (shown-matched k) (omega arith)
+  shown-least (column side name) k h = rw (shown-column k side name) (omega arith)
+  shown-least (call {ts} {xs} name p d) k h =
+    rw (shown-call k name xs) (omega (arith, length-append (listed (each xs)) (symbol symbols.Close ∷ []), length-append ts (symbol symbols.Close ∷ []), listed-least d))
+  shown-least (group {ts} {x} d) k h = omega (arith, length-append ts (symbol symbols.Close ∷ []), shown-few d k, shown-least d 1 (omega arith))
+
+  listed-least : {ts : List Tok} {xs : List Expr} → SpellsArguments ts xs → length (listed (each xs)) ≤ length ts
+  listed-least none = omega arith
+  listed-least (some {ts} {us} {xs} {x} f d) =
+    rw (each-more xs x, listed-last (each xs) (fold-Expr (ℕ → List Tok) shown_layer x))
+      (omega (arith, length-append (fronted (each xs)) (shown 1 x), length-append ts us, fronted-least f, shown-least d 1 (omega arith)))
+
+  fronted-least : {ts : List Tok} {xs : List Expr} → SpellsFront ts xs → length (fronted (each xs)) ≤ length ts
+  fronted-least start = omega arith
+  fronted-least (onward {ts} {us} {xs} {x} f d) =
+    rw (each-more xs x, fronted-more (each xs) (fold-Expr (ℕ → List Tok) shown_layer x))
+      (omega (arith, length-append (fronted (each xs) ++ shown 1 x) (symbol symbols.Comma ∷ []), length-append (fronted (each xs)) (shown 1 x), length-append (ts ++ us) (symbol symbols.Comma ∷ []), length-append ts us, fronted-least f, shown-least d 1 (omega arith)))
+
+pub shows_what_is_spelled : ShowsWhatIsSpelled
+shows_what_is_spelled ts x d = shown-spells d 1 (omega arith)
+
+pub shows_fewest : ShowsFewest
+shows_fewest ts x d = shown-least d 1 (omega arith)

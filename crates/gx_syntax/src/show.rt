@@ -1,0 +1,3 @@
+//! Trees to text.
+
+mod laws;
