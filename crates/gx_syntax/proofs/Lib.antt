@@ -11,3 +11,4 @@ pub mod ReaderLemmas
 pub mod SymbolLemmas
 pub mod TakenLemmas
 pub mod ShownLemmas
+pub mod SpacingLemmas

@@ -1,14 +1,17 @@
 -- What is shown of an expression spells it, with the fewest tokens.
 use Rattle.std.proofs.Common.{◌≡◌, ℕ, suc, zero, ◌<◌, ◌≤◌, ◌+◌, Bool, true, false, if◌then◌else◌, List, [], ◌∷◌, ◌++◌, length, map, refl, sym, ◌∙◌, ap, subst, append_assoc, length-append, arith, nat_le, pos, codes}
 use Rattle.std.proofs.lemmas.Bool.{leb-true, le-leb}
-use Rattle.std.proofs.lemmas.List.{append-nil}
+use Rattle.std.proofs.lemmas.List.{append-nil, map-append}
 use Rattle.gx_syntax.specs.Toks.{Tok, word, number, quoted, symbol}
 use Rattle.gx_syntax.specs.Operators.{level, left, right, outer, inner, spelled, spelled_before}
 use Rattle.gx_syntax.specs.Grammar.{number_of, quoted_of, truth_of, matched_of, column_of, call_of, unary_of, binary_of, Spells, above, between, before, constant, quotation, yes, no, matching, column, call, group, SpellsArguments, none, some, SpellsFront, start, onward}
-use Rattle.gx_syntax.specs.Shown.{grouped, listed_on, listed, shown_layer, shown, ShowsWhatIsSpelled, ShowsFewest}
+use Rattle.gx_syntax.specs.Shown.{piece_before, shown_layer, pieces, shown, ShowsWhatIsSpelled, ShowsFewest}
+use Rattle.gx_syntax.specs.Shown as p
+use Rattle.gx_syntax.specs.Spacing.{Piece, token, sign, function, tok}
 use Rattle.gx_syntax.proofs.Levels.{level-left, level-right, left-high, right-high, outer-inner, inner-high, lowered}
 use Rattle.gx_syntax.specs.declared.symbol.Symbol.TheVariants as symbols
-use Rattle.gx_syntax.specs.declared.tree.expr.Expr.{Expr}
+use Rattle.gx_syntax.specs.declared.tree.expr.Expr.{Expr, roll-Expr, map-Expr}
+use Rattle.gx_syntax.specs.declared.tree.expr.Expr.TheOpen.{Expr-F}
 use Rattle.gx_syntax.specs.declared.tree.expr.Expr.TheOpen as layer
 use Rattle.gx_syntax.specs.declared.tree.expr.Expr.TheFolds.{fold-Expr, fold-roll-Expr}
 use Rattle.gx_syntax.specs.declared.tree.expr.Binary.{Binary}
@@ -16,36 +19,78 @@ use Rattle.gx_syntax.specs.declared.tree.expr.Unary.{Unary}
 use Rattle.gx_syntax.specs.declared.tree.expr.Binary.TheVariants as binary
 use Rattle.gx_syntax.specs.declared.tree.expr.Unary.TheVariants as unary
 
--- one layer of what is shown
+-- the same over tokens
+abbrev pub grouped : ℕ → ℕ → List Tok → List Tok
+grouped l m ts = if nat_le l m then ts else symbol symbols.Open ∷ ts ++ symbol symbols.Close ∷ []
+
+abbrev pub listed_on : List (ℕ → List Tok) → List Tok
+listed_on [] = []
+listed_on (x ∷ xs) = symbol symbols.Comma ∷ x 1 ++ listed_on xs
+
+abbrev pub listed : List (ℕ → List Tok) → List Tok
+listed [] = []
+listed (x ∷ xs) = x 1 ++ listed_on xs
+
+abbrev pub part : Expr → ℕ → List Tok
+part x k = shown k x
+
 abbrev pub each : List Expr → List (ℕ → List Tok)
-each xs = map (fold-Expr (ℕ → List Tok) shown_layer) xs
+each xs = map part xs
+
+grouped-tok : (l m : ℕ) (ps : List Piece) → map tok (p.grouped l m ps) ≡ grouped l m (map tok ps)
+grouped-tok l m ps = go (nat_le l m)
+  where
+  go : (b : Bool) → map tok (if b then ps else token (symbol symbols.Open) ∷ ps ++ token (symbol symbols.Close) ∷ []) ≡ (if b then map tok ps else symbol symbols.Open ∷ map tok ps ++ symbol symbols.Close ∷ [])
+  go true = refl
+  go false = ap (λ l. symbol symbols.Open ∷ l) (map-append tok ps (token (symbol symbols.Close) ∷ []))
+
+listed_on-tok : (xs : List Expr) → map tok (p.listed_on (map (fold-Expr (ℕ → List Piece) shown_layer) xs)) ≡ listed_on (each xs)
+listed_on-tok [] = refl
+listed_on-tok (x ∷ xs) = ap (λ l. symbol symbols.Comma ∷ l) (map-append tok (pieces 1 x) (p.listed_on (map (fold-Expr (ℕ → List Piece) shown_layer) xs)) ∙ ap (λ l. shown 1 x ++ l) (listed_on-tok xs))
+
+listed-tok : (xs : List Expr) → map tok (p.listed (map (fold-Expr (ℕ → List Piece) shown_layer) xs)) ≡ listed (each xs)
+listed-tok [] = refl
+listed-tok (x ∷ xs) = map-append tok (pieces 1 x) (p.listed_on (map (fold-Expr (ℕ → List Piece) shown_layer) xs)) ∙ ap (λ l. shown 1 x ++ l) (listed_on-tok xs)
+
+-- one layer of what is shown
+at : (k : ℕ) (x : Expr-F Expr) → pieces k (roll-Expr x) ≡ shown_layer (map-Expr Expr (ℕ → List Piece) (fold-Expr (ℕ → List Piece) shown_layer) x) k
+at k x = ap (λ (g : ℕ → List Piece). g k) (fold-roll-Expr (ℕ → List Piece) shown_layer x)
 
 pub shown-number : (k n : ℕ) → shown k (number_of n) ≡ number n ∷ []
-shown-number k n = ap (λ (g : ℕ → List Tok). g k) (fold-roll-Expr (ℕ → List Tok) shown_layer (layer.Number (pos n)))
+shown-number k n = ap (map tok) (at k (layer.Number (pos n)))
 
 pub shown-quoted : (k : ℕ) (s : List ℕ) → shown k (quoted_of s) ≡ quoted s ∷ []
-shown-quoted k s = ap (λ (g : ℕ → List Tok). g k) (fold-roll-Expr (ℕ → List Tok) shown_layer (layer.Quoted s))
+shown-quoted k s = ap (map tok) (at k (layer.Quoted s))
 
 pub shown-yes : (k : ℕ) → shown k (truth_of true) ≡ word (codes "true") ∷ []
-shown-yes k = ap (λ (g : ℕ → List Tok). g k) (fold-roll-Expr (ℕ → List Tok) shown_layer (layer.Truth true))
+shown-yes k = ap (map tok) (at k (layer.Truth true))
 
 pub shown-no : (k : ℕ) → shown k (truth_of false) ≡ word (codes "false") ∷ []
-shown-no k = ap (λ (g : ℕ → List Tok). g k) (fold-roll-Expr (ℕ → List Tok) shown_layer (layer.Truth false))
+shown-no k = ap (map tok) (at k (layer.Truth false))
 
 pub shown-matched : (k : ℕ) → shown k matched_of ≡ word (codes "matched") ∷ []
-shown-matched k = ap (λ (g : ℕ → List Tok). g k) (fold-roll-Expr (ℕ → List Tok) shown_layer layer.Matched)
+shown-matched k = ap (map tok) (at k layer.Matched)
 
 pub shown-column : (k : ℕ) (side name : List ℕ) → shown k (column_of side name) ≡ word side ∷ symbol symbols.Dot ∷ word name ∷ []
-shown-column k side name = ap (λ (g : ℕ → List Tok). g k) (fold-roll-Expr (ℕ → List Tok) shown_layer (layer.Column side name))
+shown-column k side name = ap (map tok) (at k (layer.Column side name))
 
 pub shown-call : (k : ℕ) (name : List ℕ) (xs : List Expr) → shown k (call_of name xs) ≡ word name ∷ symbol symbols.Open ∷ listed (each xs) ++ symbol symbols.Close ∷ []
-shown-call k name xs = ap (λ (g : ℕ → List Tok). g k) (fold-roll-Expr (ℕ → List Tok) shown_layer (layer.Call name xs))
+shown-call k name xs =
+  ap (map tok) (at k (layer.Call name xs))
+    ∙ ap (λ l. word name ∷ symbol symbols.Open ∷ l) (map-append tok (p.listed (map (fold-Expr (ℕ → List Piece) shown_layer) xs)) (token (symbol symbols.Close) ∷ []) ∙ ap (λ l. l ++ symbol symbols.Close ∷ []) (listed-tok xs))
+
+before-tok : (o : Unary) → tok (piece_before o) ≡ spelled_before o
+before-tok unary.Not = refl
+before-tok unary.Minus = refl
 
 pub shown-before : (k : ℕ) (o : Unary) (a : Expr) → shown k (unary_of o a) ≡ grouped k (outer o) (spelled_before o ∷ shown (inner o) a)
-shown-before k o a = ap (λ (g : ℕ → List Tok). g k) (fold-roll-Expr (ℕ → List Tok) shown_layer (layer.Unary o a))
+shown-before k o a =
+  ap (map tok) (at k (layer.Unary o a)) ∙ grouped-tok k (outer o) (piece_before o ∷ pieces (inner o) a) ∙ ap (λ t. grouped k (outer o) (t ∷ shown (inner o) a)) (before-tok o)
 
 pub shown-between : (k : ℕ) (o : Binary) (a b : Expr) → shown k (binary_of o a b) ≡ grouped k (level o) (shown (left o) a ++ spelled o ∷ shown (right o) b)
-shown-between k o a b = ap (λ (g : ℕ → List Tok). g k) (fold-roll-Expr (ℕ → List Tok) shown_layer (layer.Binary o a b))
+shown-between k o a b =
+  ap (map tok) (at k (layer.Binary o a b)) ∙ grouped-tok k (level o) (pieces (left o) a ++ token (spelled o) ∷ pieces (right o) b)
+    ∙ ap (grouped k (level o)) (map-append tok (pieces (left o) a) (token (spelled o) ∷ pieces (right o) b))
 
 -- arguments, each with a comma behind it
 abbrev fronted : List (ℕ → List Tok) → List Tok
@@ -64,9 +109,9 @@ listed-last : (xs : List (ℕ → List Tok)) (x : ℕ → List Tok) → listed (
 listed-last [] x = append-nil (x 1)
 listed-last (y ∷ ys) x = rw (append_assoc, listed_on-last ys x) refl
 
-each-more : (xs : List Expr) (x : Expr) → each (xs ++ x ∷ []) ≡ each xs ++ fold-Expr (ℕ → List Tok) shown_layer x ∷ []
+each-more : (xs : List Expr) (x : Expr) → each (xs ++ x ∷ []) ≡ each xs ++ part x ∷ []
 each-more [] x = refl
-each-more (y ∷ ys) x = ap (λ l. fold-Expr (ℕ → List Tok) shown_layer y ∷ l) (each-more ys x)
+each-more (y ∷ ys) x = ap (λ l. part y ∷ l) (each-more ys x)
 
 -- parentheses where they are needed
 grouped-spells : (k m : ℕ) (ts : List Tok) (x : Expr) → k ≤ 8 → 1 ≤ m → Spells m ts x → Spells k (grouped k m ts) x
@@ -102,11 +147,11 @@ mutual
 
   listed-spells : {ts : List Tok} {xs : List Expr} → SpellsArguments ts xs → SpellsArguments (listed (each xs)) xs
   listed-spells none = none
-  listed-spells (some {xs} {x} f d) = rw (each-more xs x, listed-last (each xs) (fold-Expr (ℕ → List Tok) shown_layer x)) (some (fronted-spells f) (shown-spells d 1 (omega arith)))
+  listed-spells (some {xs} {x} f d) = rw (each-more xs x, listed-last (each xs) (part x)) (some (fronted-spells f) (shown-spells d 1 (omega arith)))
 
   fronted-spells : {ts : List Tok} {xs : List Expr} → SpellsFront ts xs → SpellsFront (fronted (each xs)) xs
   fronted-spells start = start
-  fronted-spells (onward {xs} {x} f d) = rw (each-more xs x, fronted-more (each xs) (fold-Expr (ℕ → List Tok) shown_layer x)) (onward (fronted-spells f) (shown-spells d 1 (omega arith)))
+  fronted-spells (onward {xs} {x} f d) = rw (each-more xs x, fronted-more (each xs) (part x)) (onward (fronted-spells f) (shown-spells d 1 (omega arith)))
 
 -- parentheses cost two tokens
 grouped-few : (k m : ℕ) (ts : List Tok) → length (grouped k m ts) ≤ length ts + 2
@@ -158,13 +203,13 @@ mutual
   listed-least : {ts : List Tok} {xs : List Expr} → SpellsArguments ts xs → length (listed (each xs)) ≤ length ts
   listed-least none = omega arith
   listed-least (some {ts} {us} {xs} {x} f d) =
-    rw (each-more xs x, listed-last (each xs) (fold-Expr (ℕ → List Tok) shown_layer x))
+    rw (each-more xs x, listed-last (each xs) (part x))
       (omega (arith, length-append (fronted (each xs)) (shown 1 x), length-append ts us, fronted-least f, shown-least d 1 (omega arith)))
 
   fronted-least : {ts : List Tok} {xs : List Expr} → SpellsFront ts xs → length (fronted (each xs)) ≤ length ts
   fronted-least start = omega arith
   fronted-least (onward {ts} {us} {xs} {x} f d) =
-    rw (each-more xs x, fronted-more (each xs) (fold-Expr (ℕ → List Tok) shown_layer x))
+    rw (each-more xs x, fronted-more (each xs) (part x))
       (omega (arith, length-append (fronted (each xs) ++ shown 1 x) (symbol symbols.Comma ∷ []), length-append (fronted (each xs)) (shown 1 x), length-append (ts ++ us) (symbol symbols.Comma ∷ []), length-append ts us, fronted-least f, shown-least d 1 (omega arith)))
 
 pub shows_what_is_spelled : ShowsWhatIsSpelled

@@ -12,4 +12,5 @@ pub mod Grammar
 pub mod Reading
 pub mod Answers
 pub mod Readers
+pub mod Spacing
 pub mod Shown

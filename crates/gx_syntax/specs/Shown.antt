@@ -1,9 +1,12 @@
 -- The tokens by which an expression is shown: parentheses stand just where the grammar needs them.
-use Rattle.std.specs.Prelude.{◌≡◌, ℕ, suc, ℤ, pos, negsuc, ◌≤◌, Bool, nat_le, if◌then◌else◌, List, [], ◌∷◌, ◌++◌, length, codes}
+use Rattle.std.specs.Prelude.{ℕ, suc, ℤ, pos, negsuc, ◌≤◌, nat_le, if◌then◌else◌, List, [], ◌∷◌, ◌++◌, length, map, codes}
 use Rattle.gx_syntax.specs.Toks.{Tok, word, number, quoted, symbol}
-use Rattle.gx_syntax.specs.Operators.{level, left, right, outer, inner, spelled, spelled_before}
+use Rattle.gx_syntax.specs.Operators.{level, left, right, outer, inner, spelled, not_word}
 use Rattle.gx_syntax.specs.Grammar.{Spells}
+use Rattle.gx_syntax.specs.Spacing.{Piece, token, sign, function, tok}
 use Rattle.gx_syntax.specs.declared.symbol.Symbol.TheVariants as symbols
+use Rattle.gx_syntax.specs.declared.tree.expr.Unary.{Unary}
+use Rattle.gx_syntax.specs.declared.tree.expr.Unary.TheVariants as unary
 use Rattle.gx_syntax.specs.declared.tree.expr.Expr.{Expr}
 use Rattle.gx_syntax.specs.declared.tree.expr.Expr.TheOpen.{Expr-F}
 use Rattle.gx_syntax.specs.declared.tree.expr.Expr.TheOpen as layer
@@ -15,33 +18,42 @@ magnitude (pos n) = n
 magnitude (negsuc n) = suc n
 
 -- tokens of level m where level l is wanted: in parentheses, where l is tighter
-abbrev pub grouped : ℕ → ℕ → List Tok → List Tok
-grouped l m ts = if nat_le l m then ts else symbol symbols.Open ∷ ts ++ symbol symbols.Close ∷ []
+abbrev pub grouped : ℕ → ℕ → List Piece → List Piece
+grouped l m ps = if nat_le l m then ps else token (symbol symbols.Open) ∷ ps ++ token (symbol symbols.Close) ∷ []
 
 -- parts, each with a comma before it
-abbrev pub listed_on : List (ℕ → List Tok) → List Tok
+abbrev pub listed_on : List (ℕ → List Piece) → List Piece
 listed_on [] = []
-listed_on (x ∷ xs) = symbol symbols.Comma ∷ x 1 ++ listed_on xs
+listed_on (x ∷ xs) = token (symbol symbols.Comma) ∷ x 1 ++ listed_on xs
 
 -- parts, with a comma between two
-abbrev pub listed : List (ℕ → List Tok) → List Tok
+abbrev pub listed : List (ℕ → List Piece) → List Piece
 listed [] = []
 listed (x ∷ xs) = x 1 ++ listed_on xs
 
--- an expression whose parts are shown: each is asked for the level at which it stands
-abbrev pub shown_layer : Expr-F (ℕ → List Tok) → ℕ → List Tok
-shown_layer (layer.Number z) l = number (magnitude z) ∷ []
-shown_layer (layer.Quoted s) l = quoted s ∷ []
-shown_layer (layer.Truth b) l = word (if b then codes "true" else codes "false") ∷ []
-shown_layer layer.Matched l = word (codes "matched") ∷ []
-shown_layer (layer.Column side name) l = word side ∷ symbol symbols.Dot ∷ word name ∷ []
-shown_layer (layer.Call name xs) l = word name ∷ symbol symbols.Open ∷ listed xs ++ symbol symbols.Close ∷ []
-shown_layer (layer.Unary o a) l = grouped l (outer o) (spelled_before o ∷ a (inner o))
-shown_layer (layer.Binary o a b) l = grouped l (level o) (a (left o) ++ spelled o ∷ b (right o))
+-- an operator before its operand
+abbrev pub piece_before : Unary → Piece
+piece_before unary.Not = token (word not_word)
+piece_before unary.Minus = sign
 
--- the tokens of an expression that stands where level l is wanted
+-- an expression whose parts are shown: each is asked for the level at which it stands
+abbrev pub shown_layer : Expr-F (ℕ → List Piece) → ℕ → List Piece
+shown_layer (layer.Number z) l = token (number (magnitude z)) ∷ []
+shown_layer (layer.Quoted s) l = token (quoted s) ∷ []
+shown_layer (layer.Truth b) l = token (word (if b then codes "true" else codes "false")) ∷ []
+shown_layer layer.Matched l = token (word (codes "matched")) ∷ []
+shown_layer (layer.Column side name) l = token (word side) ∷ token (symbol symbols.Dot) ∷ token (word name) ∷ []
+shown_layer (layer.Call name xs) l = function name ∷ token (symbol symbols.Open) ∷ listed xs ++ token (symbol symbols.Close) ∷ []
+shown_layer (layer.Unary o a) l = grouped l (outer o) (piece_before o ∷ a (inner o))
+shown_layer (layer.Binary o a b) l = grouped l (level o) (a (left o) ++ token (spelled o) ∷ b (right o))
+
+-- an expression that stands where level l is wanted
+abbrev pub pieces : ℕ → Expr → List Piece
+pieces l x = fold-Expr (ℕ → List Piece) shown_layer x l
+
+-- its tokens
 abbrev pub shown : ℕ → Expr → List Tok
-shown l x = fold-Expr (ℕ → List Tok) shown_layer x l
+shown l x = map tok (pieces l x)
 
 -- what is shown of an expression spells it
 abbrev pub ShowsWhatIsSpelled : Type 0
