@@ -12,3 +12,6 @@ pub mod SymbolLemmas
 pub mod TakenLemmas
 pub mod ShownLemmas
 pub mod SpacingLemmas
+pub mod WrittenLemmas
+pub mod EscapeLemmas
+pub mod PuttingLemmas

@@ -2,8 +2,9 @@
 use Rattle.std.specs.Prelude.{ℕ, suc, ℤ, pos, negsuc, ◌≤◌, nat_le, if◌then◌else◌, List, [], ◌∷◌, ◌++◌, length, map, codes}
 use Rattle.gx_syntax.specs.Toks.{Tok, word, number, quoted, symbol}
 use Rattle.gx_syntax.specs.Operators.{level, left, right, outer, inner, spelled, not_word}
+use Rattle.gx_syntax.specs.declared.tree.expr.Binary.{Binary}
 use Rattle.gx_syntax.specs.Grammar.{Spells}
-use Rattle.gx_syntax.specs.Spacing.{Piece, token, sign, function, tok}
+use Rattle.gx_syntax.specs.Spacing.{Piece, token, sign, function, tok, text_of, spaced}
 use Rattle.gx_syntax.specs.declared.symbol.Symbol.TheVariants as symbols
 use Rattle.gx_syntax.specs.declared.tree.expr.Unary.{Unary}
 use Rattle.gx_syntax.specs.declared.tree.expr.Unary.TheVariants as unary
@@ -62,3 +63,39 @@ ShowsWhatIsSpelled = (ts : List Tok) (x : Expr) → Spells 1 ts x → Spells 1 (
 -- and no fewer tokens spell it
 abbrev pub ShowsFewest : Type 0
 ShowsFewest = (ts : List Tok) (x : Expr) → Spells 1 ts x → length (shown 1 x) ≤ length ts
+
+-- its text
+abbrev pub written : ℕ → Expr → List ℕ
+written l x = spaced (pieces l x)
+
+-- the parenthesis before tokens of level m where level l is wanted
+abbrev pub open_mark : ℕ → ℕ → List ℕ
+open_mark l m = if nat_le l m then [] else 40 ∷ []
+
+-- and behind them
+abbrev pub close_mark : ℕ → ℕ → List ℕ
+close_mark l m = if nat_le l m then [] else 41 ∷ []
+
+-- arguments, each with a comma before it
+abbrev pub on_text : List Expr → List ℕ
+on_text [] = []
+on_text (x ∷ xs) = 44 ∷ 32 ∷ (written 1 x ++ on_text xs)
+
+-- what stands before an argument, by those before it
+abbrev pub between_text : List Expr → List ℕ
+between_text [] = []
+between_text (x ∷ xs) = 44 ∷ 32 ∷ []
+
+-- the arguments of a call
+abbrev pub list_text : List Expr → List ℕ
+list_text [] = []
+list_text (x ∷ xs) = written 1 x ++ on_text xs
+
+-- an operator before its operand, with what stands between them
+abbrev pub front_text : Unary → List ℕ
+front_text unary.Not = codes "not "
+front_text unary.Minus = codes "-"
+
+-- an operator between its operands, with the spaces around it
+abbrev pub middle_text : Binary → List ℕ
+middle_text o = 32 ∷ text_of (spelled o) ++ 32 ∷ []

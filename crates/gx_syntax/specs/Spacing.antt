@@ -1,5 +1,5 @@
 -- The text of tokens: one space between two, but where one stands close to the other.
-use Rattle.std.specs.Prelude.{◌≡◌, ℕ, Bool, true, false, ◌==◌, ◌||◌, if◌then◌else◌, List, [], ◌∷◌, ◌++◌, length, map, codes, decimal, refl}
+use Rattle.std.specs.Prelude.{◌≡◌, ℕ, Bool, true, false, not, ◌==◌, ◌||◌, if◌then◌else◌, List, [], ◌∷◌, ◌++◌, length, map, codes, decimal, refl}
 use Rattle.gx_syntax.specs.Toks.{Tok, word, number, quoted, symbol, Lexed, whole}
 use Rattle.gx_syntax.specs.Symbols.{spelling}
 use Rattle.gx_syntax.specs.Lexing.{lexed}
@@ -27,6 +27,10 @@ escape c =
     else if c == 9 then 92 ∷ 116 ∷ []
     else if c == 13 then 92 ∷ 114 ∷ []
     else c ∷ []
+
+-- a byte that is written as it is
+abbrev pub is_plain : ℕ → Bool
+is_plain c = not (c == 34 || c == 92 || c == 10 || c == 9 || c == 13)
 
 -- a quoted text between its marks
 abbrev pub escapes : List ℕ → List ℕ

@@ -3,6 +3,6 @@
 mod cursor;
 mod escapes;
 mod expression;
-mod operators;
+pub(crate) mod operators;
 mod stack;
 mod steps;

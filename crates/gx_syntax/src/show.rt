@@ -1,3 +1,5 @@
 //! Trees to text.
 
+mod expression;
 mod laws;
+mod quotation;
