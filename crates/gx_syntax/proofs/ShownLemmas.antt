@@ -5,9 +5,9 @@ use Rattle.std.proofs.lemmas.List.{append-nil, map-append}
 use Rattle.gx_syntax.specs.Toks.{Tok, word, number, quoted, symbol}
 use Rattle.gx_syntax.specs.Operators.{level, left, right, outer, inner, spelled, spelled_before}
 use Rattle.gx_syntax.specs.Grammar.{number_of, quoted_of, truth_of, matched_of, column_of, call_of, unary_of, binary_of, Spells, above, between, before, constant, quotation, yes, no, matching, column, call, group, SpellsArguments, none, some, SpellsFront, start, onward}
-use Rattle.gx_syntax.specs.Shown.{piece_before, shown_layer, pieces, shown, ShowsWhatIsSpelled, ShowsFewest}
+use Rattle.gx_syntax.specs.Shown.{piece_before, shown_layer, pieces, shown, ShowsWhatIsSpelled, ShowsFewest, ShowsProper}
 use Rattle.gx_syntax.specs.Shown as p
-use Rattle.gx_syntax.specs.Spacing.{Piece, token, sign, function, tok}
+use Rattle.gx_syntax.specs.Spacing.{Piece, token, sign, function, tok, AreProper, AreProperToks}
 use Rattle.gx_syntax.proofs.Levels.{level-left, level-right, left-high, right-high, outer-inner, inner-high, lowered}
 use Rattle.gx_syntax.specs.declared.symbol.Symbol.TheVariants as symbols
 use Rattle.gx_syntax.specs.declared.tree.expr.Expr.{Expr, roll-Expr, map-Expr}
@@ -217,3 +217,60 @@ shows_what_is_spelled ts x d = shown-spells d 1 (omega arith)
 
 pub shows_fewest : ShowsFewest
 shows_fewest ts x d = shown-least d 1 (omega arith)
+
+-- tokens that may stand in a text
+proper-append : (ts us : List Tok) → AreProperToks ts → AreProperToks us → AreProperToks (ts ++ us)
+proper-append [] us a b = b
+proper-append (t ∷ ts) us a b = (a.0, proper-append ts us a.1 b)
+
+proper-left : (ts us : List Tok) → AreProperToks (ts ++ us) → AreProperToks ts
+proper-left [] us a = tt
+proper-left (t ∷ ts) us a = (a.0, proper-left ts us a.1)
+
+proper-right : (ts us : List Tok) → AreProperToks (ts ++ us) → AreProperToks us
+proper-right [] us a = a
+proper-right (t ∷ ts) us a = proper-right ts us a.1
+
+grouped-proper : (k m : ℕ) (ts : List Tok) → AreProperToks ts → AreProperToks (grouped k m ts)
+grouped-proper k m ts a = go (nat_le k m)
+  where
+  go : (b : Bool) → AreProperToks (if b then ts else symbol symbols.Open ∷ ts ++ symbol symbols.Close ∷ [])
+  go true = a
+  go false = (tt, proper-append ts (symbol symbols.Close ∷ []) a (tt, tt))
+
+mutual
+  shown-proper : {l : ℕ} {ts : List Tok} {x : Expr} → Spells l ts x → AreProperToks ts → (k : ℕ) → AreProperToks (shown k x)
+  shown-proper (above d) p k = shown-proper d p k
+  shown-proper (between {ts} {us} {a} {b} o d e) p k =
+    let behind : AreProperToks (spelled o ∷ us) = proper-right ts (spelled o ∷ us) p in
+    rw (shown-between k o a b) (grouped-proper k (level o) _ (proper-append (shown (left o) a) (spelled o ∷ shown (right o) b)
+      (shown-proper d (proper-left ts (spelled o ∷ us) p) (left o)) (behind.0, shown-proper e behind.1 (right o))))
+  shown-proper (before {a} o d) p k = rw (shown-before k o a) (grouped-proper k (outer o) _ (p.0, shown-proper d p.1 (inner o)))
+  shown-proper (constant n q) p k = rw (shown-number k n) p
+  shown-proper (quotation s) p k = rw (shown-quoted k s) p
+  shown-proper yes p k = rw (shown-yes k) p
+  shown-proper no p k = rw (shown-no k) p
+  shown-proper matching p k = rw (shown-matched k) p
+  shown-proper (column side name) p k = rw (shown-column k side name) p
+  shown-proper (call {ts} {xs} name q d) p k =
+    rw (shown-call k name xs) (p.0, (tt, proper-append (listed (each xs)) (symbol symbols.Close ∷ []) (listed-proper d (proper-left ts (symbol symbols.Close ∷ []) p.1.1)) (tt, tt)))
+  shown-proper (group {ts} d) p k = shown-proper d (proper-left ts (symbol symbols.Close ∷ []) p.1) k
+
+  listed-proper : {ts : List Tok} {xs : List Expr} → SpellsArguments ts xs → AreProperToks ts → AreProperToks (listed (each xs))
+  listed-proper none p = tt
+  listed-proper (some {ts} {us} {xs} {x} f d) p =
+    rw (each-more xs x, listed-last (each xs) (part x)) (proper-append (fronted (each xs)) (shown 1 x) (fronted-proper f (proper-left ts us p)) (shown-proper d (proper-right ts us p) 1))
+
+  fronted-proper : {ts : List Tok} {xs : List Expr} → SpellsFront ts xs → AreProperToks ts → AreProperToks (fronted (each xs))
+  fronted-proper start p = tt
+  fronted-proper (onward {ts} {us} {xs} {x} f d) p =
+    let both : AreProperToks (ts ++ us) = proper-left (ts ++ us) (symbol symbols.Comma ∷ []) p in
+    rw (each-more xs x, fronted-more (each xs) (part x)) (proper-append (fronted (each xs) ++ shown 1 x) (symbol symbols.Comma ∷ [])
+      (proper-append (fronted (each xs)) (shown 1 x) (fronted-proper f (proper-left ts us both)) (shown-proper d (proper-right ts us both) 1)) (tt, tt))
+
+pub proper-pieces : (ps : List Piece) → AreProperToks (map tok ps) → AreProper ps
+proper-pieces [] a = tt
+proper-pieces (q ∷ qs) a = (a.0, proper-pieces qs a.1)
+
+pub shows_proper : ShowsProper
+shows_proper ts x d p = proper-pieces (pieces 1 x) (shown-proper d p 1)

@@ -4,7 +4,7 @@ use Rattle.gx_syntax.specs.Toks.{Tok, word, number, quoted, symbol}
 use Rattle.gx_syntax.specs.Operators.{level, left, right, outer, inner, spelled, not_word}
 use Rattle.gx_syntax.specs.declared.tree.expr.Binary.{Binary}
 use Rattle.gx_syntax.specs.Grammar.{Spells}
-use Rattle.gx_syntax.specs.Spacing.{Piece, token, sign, function, tok, text_of, spaced}
+use Rattle.gx_syntax.specs.Spacing.{Piece, token, sign, function, tok, text_of, spaced, AreProper, AreProperToks}
 use Rattle.gx_syntax.specs.declared.symbol.Symbol.TheVariants as symbols
 use Rattle.gx_syntax.specs.declared.tree.expr.Unary.{Unary}
 use Rattle.gx_syntax.specs.declared.tree.expr.Unary.TheVariants as unary
@@ -99,3 +99,7 @@ front_text unary.Minus = codes "-"
 -- an operator between its operands, with the spaces around it
 abbrev pub middle_text : Binary → List ℕ
 middle_text o = 32 ∷ text_of (spelled o) ++ 32 ∷ []
+
+-- what is shown of an expression may stand in a text, if tokens that may spell it
+abbrev pub ShowsProper : Type 0
+ShowsProper = (ts : List Tok) (x : Expr) → Spells 1 ts x → AreProperToks ts → AreProper (pieces 1 x)

@@ -114,3 +114,8 @@ ReadsLinesBack = (pss : List (List Piece)) → AreProperLines pss → (toks (lex
 spaced-call : spaced (function (codes "f") ∷ token (symbol symbols.Open) ∷ sign ∷ token (word (codes "v")) ∷ token (symbol symbols.Dot) ∷ token (word (codes "x")) ∷ token (symbol symbols.Close) ∷ token (symbol symbols.Minus) ∷ token (quoted (34 ∷ 10 ∷ [])) ∷ [])
     ≡ codes "f(-v.x) - \"\\\"\\n\""
 spaced-call = refl
+
+-- the same of tokens
+abbrev pub AreProperToks : List Tok → Type 0
+AreProperToks [] = Unit {0}
+AreProperToks (t ∷ ts) = IsProper t × AreProperToks ts

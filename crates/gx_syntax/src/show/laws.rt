@@ -1,12 +1,14 @@
 //! What holds of the tokens by which a tree is shown.
 
-ghost use Rattle.gx_syntax.specs.Shown.{ShowsFewest, ShowsWhatIsSpelled};
+ghost use Rattle.gx_syntax.specs.Shown.{ShowsFewest, ShowsProper, ShowsWhatIsSpelled};
 ghost use Rattle.gx_syntax.specs.Spacing.{ReadsBack, ReadsLinesBack};
 
-/// What is shown of an expression spells it, and nothing spells it by fewer tokens.
+/// What is shown of an expression spells it, nothing spells it by fewer tokens, and its
+/// tokens may stand in a text if those that were read may.
 pub(crate) fn expressions_are_shown()
     ensures spelled { ShowsWhatIsSpelled }
     ensures fewest { ShowsFewest }
+    ensures proper { ShowsProper }
 {
 }
 
