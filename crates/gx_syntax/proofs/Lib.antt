@@ -15,3 +15,4 @@ pub mod SpacingLemmas
 pub mod WrittenLemmas
 pub mod EscapeLemmas
 pub mod PuttingLemmas
+pub mod ShownBackLemmas

@@ -14,3 +14,4 @@ pub mod Answers
 pub mod Readers
 pub mod Spacing
 pub mod Shown
+pub mod ShownBack

@@ -1,6 +1,7 @@
 //! What holds of the tokens by which a tree is shown.
 
 ghost use Rattle.gx_syntax.specs.Shown.{ShowsFewest, ShowsProper, ShowsWhatIsSpelled};
+ghost use Rattle.gx_syntax.specs.ShownBack.{ReadsShownBack};
 ghost use Rattle.gx_syntax.specs.Spacing.{ReadsBack, ReadsLinesBack};
 
 /// What is shown of an expression spells it, nothing spells it by fewer tokens, and its
@@ -16,5 +17,11 @@ pub(crate) fn expressions_are_shown()
 pub(crate) fn spaced_text_is_read_back()
     ensures tokens { ReadsBack }
     ensures lines { ReadsLinesBack }
+{
+}
+
+/// The text of an expression is read back as this expression.
+pub(crate) fn shown_expressions_are_read_back()
+    ensures { ReadsShownBack }
 {
 }
