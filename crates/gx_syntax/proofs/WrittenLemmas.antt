@@ -1,9 +1,9 @@
 -- The text of an expression from the texts of its parts.
-use Rattle.std.proofs.Common.{◌≡◌, ℕ, ℤ, suc, zero, ◌≤◌, Bool, true, false, if◌then◌else◌, ◌||◌, List, [], ◌∷◌, ◌++◌, map, refl, sym, ◌∙◌, ap, subst, append_assoc, nat_le, codes, decimal}
+use Rattle.std.proofs.Common.{◌≡◌, ℕ, ℤ, Bool, true, false, if◌then◌else◌, ◌||◌, List, [], ◌∷◌, ◌++◌, map, refl, sym, ◌∙◌, ap, subst, append_assoc, nat_le, codes, decimal}
 use Rattle.std.proofs.lemmas.List.{append-nil}
-use Rattle.gx_syntax.specs.Toks.{Tok, word, number, quoted, symbol}
+use Rattle.gx_syntax.specs.Toks.{Tok, symbol}
 use Rattle.gx_syntax.specs.Operators.{level, left, right, outer, inner, spelled}
-use Rattle.gx_syntax.specs.Grammar.{number_of, quoted_of, truth_of, matched_of, column_of, call_of, unary_of, binary_of}
+use Rattle.gx_syntax.specs.Grammar.{quoted_of, truth_of, matched_of, column_of, call_of, unary_of, binary_of}
 use Rattle.gx_syntax.specs.Spacing.{Piece, token, sign, function, tok, text_of, escapes, follows, leads, between, spaced_on, spaced}
 use Rattle.gx_syntax.specs.Shown.{magnitude, grouped, listed_on, listed, piece_before, shown_layer, pieces, written, open_mark, close_mark, on_text, list_text, front_text, middle_text}
 use Rattle.gx_syntax.specs.declared.symbol.Symbol.TheVariants as symbols
@@ -73,18 +73,18 @@ apart p (q ∷ qs) s h = rw (h (tok q), s) refl
 good-grouped : (l m : ℕ) (ps : List Piece) → Good ps → Good (grouped l m ps)
 good-grouped l m ps g = go (nat_le l m)
   where
-  go : (b : Bool) → Good (if b then ps else token (symbol symbols.Open) ∷ ps ++ token (symbol symbols.Close) ∷ [])
-  go true = g
-  go false = record { starts = refl; ends = ends-more (token (symbol symbols.Open)) (ps ++ token (symbol symbols.Close) ∷ []) (ends-append ps (token (symbol symbols.Close) ∷ []) (λ u. refl)) }
+    go : (b : Bool) → Good (if b then ps else token (symbol symbols.Open) ∷ ps ++ token (symbol symbols.Close) ∷ [])
+    go true = g
+    go false = record { starts = refl; ends = ends-more (token (symbol symbols.Open)) (ps ++ token (symbol symbols.Close) ∷ []) (ends-append ps (token (symbol symbols.Close) ∷ []) (λ u. refl)) }
 
 spaced-grouped : (l m : ℕ) (ps : List Piece) → Good ps → spaced (grouped l m ps) ≡ open_mark l m ++ (spaced ps ++ close_mark l m)
 spaced-grouped l m ps g = go (nat_le l m)
   where
-  go : (b : Bool) → spaced (if b then ps else token (symbol symbols.Open) ∷ ps ++ token (symbol symbols.Close) ∷ []) ≡ (if b then [] else 40 ∷ []) ++ (spaced ps ++ (if b then [] else 41 ∷ []))
-  go true = sym (append-nil (spaced ps))
-  go false =
-    ap (λ l. 40 ∷ l) (led (token (symbol symbols.Open)) (ps ++ token (symbol symbols.Close) ∷ []) (starts-append ps (token (symbol symbols.Close) ∷ []) g.starts) (λ u. refl)
-      ∙ spaced-join ps (token (symbol symbols.Close)) [] g.ends)
+    go : (b : Bool) → spaced (if b then ps else token (symbol symbols.Open) ∷ ps ++ token (symbol symbols.Close) ∷ []) ≡ (if b then [] else 40 ∷ []) ++ (spaced ps ++ (if b then [] else 41 ∷ []))
+    go true = sym (append-nil (spaced ps))
+    go false =
+        ap (λ l. 40 ∷ l) (led (token (symbol symbols.Open)) (ps ++ token (symbol symbols.Close) ∷ []) (starts-append ps (token (symbol symbols.Close) ∷ []) g.starts) (λ u. refl)
+        ∙ spaced-join ps (token (symbol symbols.Close)) [] g.ends)
 
 -- each expression begins and ends so
 abbrev Fine : Expr → Type 0
@@ -110,7 +110,7 @@ parts xs = map (fold-Expr (ℕ → List Piece) shown_layer) xs
 
 good-call : (name : List ℕ) (xs : List (ℕ → List Piece)) → Good (function name ∷ token (symbol symbols.Open) ∷ listed xs ++ token (symbol symbols.Close) ∷ [])
 good-call name xs =
-  record { starts = refl; ends = ends-append (function name ∷ token (symbol symbols.Open) ∷ listed xs) (token (symbol symbols.Close) ∷ []) (λ u. refl) }
+    record { starts = refl; ends = ends-append (function name ∷ token (symbol symbols.Open) ∷ listed xs) (token (symbol symbols.Close) ∷ []) (λ u. refl) }
 
 good-layer : (y : Expr-F ((x : Expr) × Fine x)) → Fine (roll-Expr (map-Expr ((x : Expr) × Fine x) Expr (λ e. e.0) y))
 good-layer (layer.Number z) k = subst Good (sym (at k (layer.Number z))) (record { starts = refl; ends = λ u. refl })
@@ -119,12 +119,12 @@ good-layer (layer.Truth b) k = subst Good (sym (at k (layer.Truth b))) (record {
 good-layer layer.Matched k = subst Good (sym (at k layer.Matched)) (record { starts = refl; ends = λ u. refl })
 good-layer (layer.Column side name) k = subst Good (sym (at k (layer.Column side name))) (record { starts = refl; ends = λ u. refl })
 good-layer (layer.Call name xs) k =
-  subst Good (sym (at k (layer.Call name (map (λ (e : (x : Expr) × Fine x). e.0) xs)))) (good-call name (parts (map (λ (e : (x : Expr) × Fine x). e.0) xs)))
+    subst Good (sym (at k (layer.Call name (map (λ (e : (x : Expr) × Fine x). e.0) xs)))) (good-call name (parts (map (λ (e : (x : Expr) × Fine x). e.0) xs)))
 good-layer (layer.Unary o a) k =
-  subst Good (sym (at k (layer.Unary o a.0)))
+    subst Good (sym (at k (layer.Unary o a.0)))
     (good-grouped k (outer o) _ (record { starts = before-starts o; ends = ends-more (piece_before o) (pieces (inner o) a.0) (a.1 (inner o)).ends }))
 good-layer (layer.Binary o a b) k =
-  subst Good (sym (at k (layer.Binary o a.0 b.0)))
+    subst Good (sym (at k (layer.Binary o a.0 b.0)))
     (good-grouped k (level o) _ (record { starts = starts-append (pieces (left o) a.0) _ (a.1 (left o)).starts; ends = ends-append (pieces (left o) a.0) _ (ends-more (token (spelled o)) (pieces (right o) b.0) (b.1 (right o)).ends) }))
 
 fine : (x : Expr) → Fine x
@@ -133,17 +133,17 @@ fine = ind-Expr Fine (λ x y is. subst (λ z. Fine (roll-Expr z)) is (good-layer
 on-join : (p : Piece) (ps : List Piece) (xs : List Expr) → Ends (p ∷ ps) → spaced_on p ((ps ++ listed_on (parts xs)) ++ token (symbol symbols.Close) ∷ []) ≡ spaced_on p ps ++ (on_text xs ++ 41 ∷ [])
 on-join p ps [] e = ap (λ l. spaced_on p (l ++ token (symbol symbols.Close) ∷ [])) (append-nil ps) ∙ spaced_on-join p ps (token (symbol symbols.Close)) [] e
 on-join p ps (x ∷ xs) e =
-  ap (spaced_on p) (append_assoc ps (listed_on (parts (x ∷ xs))) (token (symbol symbols.Close) ∷ []))
+    ap (spaced_on p) (append_assoc ps (listed_on (parts (x ∷ xs))) (token (symbol symbols.Close) ∷ []))
     ∙ spaced_on-join p ps (token (symbol symbols.Comma)) ((pieces 1 x ++ listed_on (parts xs)) ++ token (symbol symbols.Close) ∷ []) e
     ∙ ap (λ l. spaced_on p ps ++ 44 ∷ l)
-        (on-join (token (symbol symbols.Comma)) (pieces 1 x) xs (ends-more (token (symbol symbols.Comma)) (pieces 1 x) (fine x 1).ends)
-          ∙ ap (λ l. l ++ (on_text xs ++ 41 ∷ [])) (apart (token (symbol symbols.Comma)) (pieces 1 x) (fine x 1).starts (λ u. refl)))
+    (on-join (token (symbol symbols.Comma)) (pieces 1 x) xs (ends-more (token (symbol symbols.Comma)) (pieces 1 x) (fine x 1).ends)
+    ∙ ap (λ l. l ++ (on_text xs ++ 41 ∷ [])) (apart (token (symbol symbols.Comma)) (pieces 1 x) (fine x 1).starts (λ u. refl)))
     ∙ simp append_assoc
 
 list-join : (xs : List Expr) → spaced_on (token (symbol symbols.Open)) (listed (parts xs) ++ token (symbol symbols.Close) ∷ []) ≡ list_text xs ++ 41 ∷ []
 list-join [] = refl
 list-join (x ∷ xs) =
-  on-join (token (symbol symbols.Open)) (pieces 1 x) xs (ends-more (token (symbol symbols.Open)) (pieces 1 x) (fine x 1).ends)
+    on-join (token (symbol symbols.Open)) (pieces 1 x) xs (ends-more (token (symbol symbols.Open)) (pieces 1 x) (fine x 1).ends)
     ∙ ap (λ l. l ++ (on_text xs ++ 41 ∷ [])) (led (token (symbol symbols.Open)) (pieces 1 x) (fine x 1).starts (λ u. refl))
     ∙ simp append_assoc
 
@@ -172,13 +172,13 @@ front-joins unary.Minus ps s = ap (λ l. 45 ∷ l) (led sign ps s (λ u. refl))
 
 pub written-before : (k : ℕ) (o : Unary) (a : Expr) → written k (unary_of o a) ≡ open_mark k (outer o) ++ ((front_text o ++ written (inner o) a) ++ close_mark k (outer o))
 written-before k o a =
-  ap spaced (at k (layer.Unary o a))
+    ap spaced (at k (layer.Unary o a))
     ∙ spaced-grouped k (outer o) (piece_before o ∷ pieces (inner o) a) (record { starts = before-starts o; ends = ends-more (piece_before o) (pieces (inner o) a) (fine a (inner o)).ends })
     ∙ ap (λ l. open_mark k (outer o) ++ (l ++ close_mark k (outer o))) (front-joins o (pieces (inner o) a) (fine a (inner o)).starts)
 
 middle-joins : (o : Binary) (ps qs : List Piece) → Good ps → Good qs → spaced (ps ++ token (spelled o) ∷ qs) ≡ spaced ps ++ (middle_text o ++ spaced qs)
 middle-joins o ps qs g h =
-  spaced-join ps (token (spelled o)) qs g.ends
+    spaced-join ps (token (spelled o)) qs g.ends
     ∙ ap (λ b. spaced ps ++ ((if b then [] else 32 ∷ []) ++ (text_of (spelled o) ++ spaced_on (token (spelled o)) qs))) (spelled-starts o)
     ∙ ap (λ l. spaced ps ++ 32 ∷ (text_of (spelled o) ++ l)) (apart (token (spelled o)) qs h.starts (spelled-apart o))
     ∙ simp append_assoc
@@ -187,8 +187,8 @@ good-middle : (o : Binary) (ps qs : List Piece) → Good ps → Good qs → Good
 good-middle o ps qs g h = record { starts = starts-append ps _ g.starts; ends = ends-append ps _ (ends-more (token (spelled o)) qs h.ends) }
 
 pub written-between : (k : ℕ) (o : Binary) (a b : Expr)
-  → written k (binary_of o a b) ≡ open_mark k (level o) ++ ((written (left o) a ++ (middle_text o ++ written (right o) b)) ++ close_mark k (level o))
+    → written k (binary_of o a b) ≡ open_mark k (level o) ++ ((written (left o) a ++ (middle_text o ++ written (right o) b)) ++ close_mark k (level o))
 written-between k o a b =
-  ap spaced (at k (layer.Binary o a b))
+    ap spaced (at k (layer.Binary o a b))
     ∙ spaced-grouped k (level o) (pieces (left o) a ++ token (spelled o) ∷ pieces (right o) b) (good-middle o (pieces (left o) a) (pieces (right o) b) (fine a (left o)) (fine b (right o)))
     ∙ ap (λ l. open_mark k (level o) ++ (l ++ close_mark k (level o))) (middle-joins o (pieces (left o) a) (pieces (right o) b) (fine a (left o)) (fine b (right o)))

@@ -77,7 +77,11 @@ fn middle_text(operator: Binary) -> &'static str
 ///
 /// `NoMemory` where there is no room for the text.
 #[cycle(expression)]
-pub(crate) fn put_expression(out: &mut String, expression: &Expr, wanted: u8) -> Result<(), NoMemory>
+pub(crate) fn put_expression(
+    out: &mut String,
+    expression: &Expr,
+    wanted: u8,
+) -> Result<(), NoMemory>
     ensures { OnOk result (string_bytes out.new ≡ string_bytes out.old ++ written wanted expression.now) }
 {
     match expression {

@@ -10,18 +10,15 @@ pub(crate) fn expressions_are_shown()
     ensures spelled { ShowsWhatIsSpelled }
     ensures fewest { ShowsFewest }
     ensures proper { ShowsProper }
-{
-}
+{}
 
 /// The tokens of a spaced text are those that it was made of, and it ends whole.
 pub(crate) fn spaced_text_is_read_back()
     ensures tokens { ReadsBack }
     ensures lines { ReadsLinesBack }
-{
-}
+{}
 
 /// The text of an expression is read back as this expression.
 pub(crate) fn shown_expressions_are_read_back()
     ensures { ReadsShownBack }
-{
-}
+{}
