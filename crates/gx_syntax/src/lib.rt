@@ -12,6 +12,7 @@ mod parser;
 mod quote;
 mod reader;
 mod runs;
+mod show;
 mod symbol;
 mod syntax_kind;
 mod token;

@@ -7,6 +7,7 @@ mod halt;
 mod heads;
 mod marks;
 mod operators;
+pub(crate) mod operators;
 mod stack;
 mod steps;
 mod words;
