@@ -6,7 +6,6 @@ mod expression;
 mod halt;
 mod heads;
 mod marks;
-mod operators;
 pub(crate) mod operators;
 mod stack;
 mod steps;
