@@ -7,6 +7,7 @@ pub mod Local
 pub mod Sound
 pub mod Expressions
 pub mod Parts
+pub mod Loops
 pub mod Forms
 pub mod LexingLemmas
 pub mod ProperLemmas
