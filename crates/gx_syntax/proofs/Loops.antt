@@ -17,6 +17,10 @@ joined_more : {A : Type 0} (front : List A) (x : A) (r : Result (List A × List 
 joined_more front x (Ok r) = rw append_assoc refl
 joined_more front x (Err e) = refl
 
+joined_none : {A : Type 0} (r : Result (List A × List Tok) (List Tok)) → joined [] r ≡ r
+joined_none (Ok r) = refl
+joined_none (Err e) = refl
+
 pub loop_begins : {A : Type 0} (starts : Tok → Bool) (p : List Tok → Result (A × List Tok) (List Tok)) (x : A) (n : ℕ) (ts : List Tok) → n ≡ suc (length ts) → joined (x ∷ []) (many starts p n ts) ≡ mapped (λ xs. x ∷ xs) (repeated starts p) ts
 unfolding repeated
 loop_begins starts p x n ts e = rw e refl
@@ -61,3 +65,8 @@ loop_halts starts p front n m ts left halts.NoMemory target e h i r = tt
 pub toks_length : (ts : List Placed) → length (toks_of ts) ≡ length ts
 toks_length [] = refl
 toks_length (t ∷ ts) = ap suc (toks_length ts)
+
+-- a loop that begins with nothing found
+pub loop_opens : {A : Type 0} (starts : Tok → Bool) (p : List Tok → Result (A × List Tok) (List Tok)) (n : ℕ) (ts : List Tok) → n ≡ suc (length ts) → joined [] (many starts p n ts) ≡ repeated starts p ts
+unfolding repeated
+loop_opens starts p n ts e = rw e (joined_none (many starts p (suc (length ts)) ts))

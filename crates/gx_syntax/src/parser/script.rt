@@ -1,14 +1,16 @@
 //! Statements and scripts.
 
+ghost use Rattle.std.specs.Prelude.{◌≡◌, true};
 ghost use Rattle.gx_syntax.specs.Forms as forms;
 ghost use Rattle.gx_syntax.specs.Halts.{Reads, toks_of};
+ghost use Rattle.gx_syntax.specs.Parts as parts;
 
 use crate::parser::cursor::Cursor;
 use crate::parser::halt::Halt;
 use crate::parser::heads::Head;
 use crate::parser::marks::Sign;
 use crate::tree::stmt::Stmt;
-use sqlite_items::Boxed;
+use sqlite_items::{Boxed, Items};
 use std::alloc::Global;
 
 impl<'a> Cursor<'a> {
@@ -58,5 +60,34 @@ impl<'a> Cursor<'a> {
         let statement = Boxed::new(alloc, self.body(alloc, head)?)?;
         self.sign(Sign::Semicolon)?;
         Ok(statement.into_inner())
+    }
+
+    /// Whether a token is left.
+    fn has_next(&self) -> bool
+        ensures { result ≡ parts.is_next (λ t. true) (toks_of self.now.rest.now) }
+    {
+        match self.rest {
+            [] => false,
+            [_, ..] => true,
+        }
+    }
+
+    /// Reads statements up to the end of the tokens.
+    pub(crate) fn script(&mut self, alloc: Global) -> Result<Items<Stmt>, Halt>
+        ensures { Reads result (toks_of self.new.rest.now) (forms.script (toks_of self.old.rest.now)) }
+    {
+        let mut statements = Items::new(alloc);
+        // There are fewer statements than tokens.
+        let most = self.rest.len() + 1;
+        'statements: for _ in 0..most {
+            if !self.has_next() {
+                return Ok(statements);
+            }
+            match self.sentence(alloc) {
+                Ok(statement) => statements.push(statement)?,
+                Err(halt) => return Err(halt),
+            }
+        }
+        Err(Halt::Refused)
     }
 }
