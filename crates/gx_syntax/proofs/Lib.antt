@@ -6,6 +6,7 @@ pub mod Forms
 pub mod Levels
 pub mod LexingLemmas
 pub mod Local
+pub mod Loops
 pub mod Parts
 pub mod ProperLemmas
 pub mod PuttingLemmas

@@ -7,7 +7,7 @@ use Rattle.gx_syntax.specs.Marks.{is_sign, is_word, sign, keyword, passing}
 use Rattle.gx_syntax.specs.Grammar.{Spells}
 use Rattle.gx_syntax.specs.Reading.{expression, goes_on, is_close, is_comma, is_open}
 use Rattle.gx_syntax.specs.Readers.{made, one, seq, choose, repeated, One, Made, Then, Either, Many, none, more, Ends, Takes, Faithful}
-use Rattle.gx_syntax.specs.Parts.{name_of, quoted_value, number_value, meant, const_head, signed_head, Listed, further, listed, Labelled, labelled, ConstTail, const_tail, negative, SpellsConst, a_const, Optional, optional, Led, led, send, SpellsSend, a_send, SpellsSends, sends, SpellsTests, tests, SpellsOriented, oriented, SpellsActive, active, side_of, active_of}
+use Rattle.gx_syntax.specs.Parts.{name_of, quoted_value, number_value, meant, const_head, signed_head, Listed, further, listed, Labelled, labelled, ConstTail, const_tail, negative, SpellsConst, a_const, Optional, optional, Led, led, send, SpellsSend, a_send, SpellsSends, sends, SpellsTests, tests, tested, SpellsOriented, oriented, SpellsActive, active, side_of, active_of}
 use Rattle.gx_syntax.proofs.Readers.{made_faithful, one_faithful, seq_faithful, choose_faithful, repeated_faithful, Starts, ends_left, ends_right, or_left, or_right}
 use Rattle.gx_syntax.proofs.Levels.{close_is, comma_is}
 use Rattle.gx_syntax.proofs.Complete.{First, first_of}
@@ -18,6 +18,7 @@ use Rattle.gx_syntax.specs.declared.symbol.Symbol.{Symbol}
 use Rattle.gx_syntax.specs.declared.symbol.Symbol.TheVariants as symbols
 use Rattle.gx_syntax.specs.declared.parser.entries.ConstHead.{ConstHead}
 use Rattle.gx_syntax.specs.declared.parser.entries.ConstHead.TheVariants as heads
+use Rattle.gx_syntax.specs.declared.parser.sends.Tests.{Tests}
 use Rattle.gx_syntax.specs.declared.tree.constant.Const.{Const}
 use Rattle.gx_syntax.specs.declared.tree.constant.Const.TheVariants as consts
 use Rattle.gx_syntax.specs.declared.tree.expr.Expr.{Expr}
@@ -296,20 +297,20 @@ sends_faithful = seq_faithful SpellsSend (λ x. Then (Many SpellsSend) (λ xs. M
 abbrev pub tests_go : Tok → Bool
 tests_go = optional_go goes_on (is_word (codes "edges"))
 
-tests_first : Faithful {A = Option Expr × Option Expr} (Then (Led (codes "vertices")) (λ v. Then (Optional (Led (codes "edges"))) (λ e. Made (Some v, e)))) tests_go
-    (seq (led (codes "vertices")) (λ v. seq (optional (is_word (codes "edges")) (led (codes "edges"))) (λ e. made (Some v, e))))
-tests_first = seq_faithful (Led (codes "vertices")) (λ v. Then (Optional (Led (codes "edges"))) (λ e. Made (Some v, e))) (led (codes "vertices")) (λ v. seq (optional (is_word (codes "edges")) (led (codes "edges"))) (λ e. made (Some v, e)))
+tests_first : Faithful {A = Tests} (Then (Led (codes "vertices")) (λ v. Then (Optional (Led (codes "edges"))) (λ e. Made (tested (Some v) e)))) tests_go
+    (seq (led (codes "vertices")) (λ v. seq (optional (is_word (codes "edges")) (led (codes "edges"))) (λ e. made (tested (Some v) e))))
+tests_first = seq_faithful (Led (codes "vertices")) (λ v. Then (Optional (Led (codes "edges"))) (λ e. Made (tested (Some v) e))) (led (codes "vertices")) (λ v. seq (optional (is_word (codes "edges")) (led (codes "edges"))) (λ e. made (tested (Some v) e)))
     goes_on tests_go (led_faithful (codes "vertices"))
-    (λ v. last (Optional (Led (codes "edges"))) (optional (is_word (codes "edges")) (led (codes "edges"))) tests_go (λ e. (Some v, e))
+    (λ v. last (Optional (Led (codes "edges"))) (optional (is_word (codes "edges")) (led (codes "edges"))) tests_go (tested (Some v))
     (optional_faithful (Led (codes "edges")) (led (codes "edges")) goes_on (is_word (codes "edges")) (led_faithful (codes "edges")) (led_starts (codes "edges"))))
     (λ x v rest y d e. rw (d.whole, d.tail.empty, append-nil)
     (optional_ends (Led (codes "edges")) goes_on (is_word (codes "edges")) (led_starts (codes "edges")) (apart_word (codes "edges") goes_on refl) d.first rest d.value d.head (ends_left goes_on (is_word (codes "edges")) rest e)))
 
 pub tests_faithful : Faithful SpellsTests tests_go tests
 unfolding SpellsTests tests
-tests_faithful = choose_faithful (Then (Led (codes "vertices")) (λ v. Then (Optional (Led (codes "edges"))) (λ e. Made (Some v, e)))) (Then (Led (codes "edges")) (λ e. Made (None, Some e))) (is_word (codes "vertices"))
-    (seq (led (codes "vertices")) (λ v. seq (optional (is_word (codes "edges")) (led (codes "edges"))) (λ e. made (Some v, e)))) (seq (led (codes "edges")) (λ e. made (None, Some e)))
-    tests_go tests_go goes_on tests_first (last (Led (codes "edges")) (led (codes "edges")) goes_on (λ e. (None, Some e)) (led_faithful (codes "edges")))
+tests_faithful = choose_faithful (Then (Led (codes "vertices")) (λ v. Then (Optional (Led (codes "edges"))) (λ e. Made (tested (Some v) e)))) (Then (Led (codes "edges")) (λ e. Made (tested None (Some e)))) (is_word (codes "vertices"))
+    (seq (led (codes "vertices")) (λ v. seq (optional (is_word (codes "edges")) (led (codes "edges"))) (λ e. made (tested (Some v) e)))) (seq (led (codes "edges")) (λ e. made (tested None (Some e))))
+    tests_go tests_go goes_on tests_first (last (Led (codes "edges")) (led (codes "edges")) goes_on (λ e. tested None (Some e)) (led_faithful (codes "edges")))
     (λ rest e. e) (λ rest e. ends_left goes_on (is_word (codes "edges")) rest e)
     (then_starts (Led (codes "vertices")) _ (is_word (codes "vertices")) (led_starts (codes "vertices")))
     (λ w x d rest e. ends_at (is_word (codes "edges")) (is_word (codes "vertices")) (apart_word (codes "edges") (is_word (codes "vertices")) refl) w rest (then_starts (Led (codes "edges")) _ (is_word (codes "edges")) (led_starts (codes "edges")) w x d))

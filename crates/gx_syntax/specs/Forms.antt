@@ -15,6 +15,7 @@ use Rattle.gx_syntax.specs.declared.parser.heads.Counted.{Counted}
 use Rattle.gx_syntax.specs.declared.parser.heads.Counted.TheVariants as counts
 use Rattle.gx_syntax.specs.declared.parser.marks.Sign.{Sign}
 use Rattle.gx_syntax.specs.declared.parser.marks.Sign.TheVariants as signs
+use Rattle.gx_syntax.specs.declared.parser.sends.Tests.{Tests}
 use Rattle.gx_syntax.specs.declared.tree.constant.Const.{Const}
 use Rattle.gx_syntax.specs.declared.tree.constant.NamedConst.{NamedConst}
 use Rattle.gx_syntax.specs.declared.tree.expr.Expr.{Expr}
@@ -46,7 +47,7 @@ Value named = List NamedConst
 Value merges = List Merge
 Value sends = List Send
 Value condition = Expr
-Value tests = Option Expr × Option Expr
+Value tests = Tests
 Value oriented = Bool
 Value active = ActiveWord
 Value printed = Printed
@@ -237,7 +238,7 @@ stmt_of heads.FromEdges v = stmts.FromEdges v.0 v.1.0 v.1.1.0
 stmt_of heads.MapVertices v = stmts.MapVertices v.0 v.1.0 v.1.1.0
 stmt_of heads.MapEdges v = stmts.MapEdges v.0 v.1.0 v.1.1.0
 stmt_of heads.MapTriplets v = stmts.MapTriplets v.0 v.1.0 v.1.1.0
-stmt_of heads.Subgraph v = stmts.Subgraph v.0 v.1.0 v.1.1.0.0 v.1.1.0.1
+stmt_of heads.Subgraph v = stmts.Subgraph v.0 v.1.0 v.1.1.0.vertices v.1.1.0.edges
 stmt_of heads.Mask v = stmts.Mask v.0 v.1.0 v.1.1.0
 stmt_of heads.Reverse v = stmts.Reverse v.0 v.1.0
 stmt_of heads.GroupEdges v = stmts.GroupEdges v.0 v.1.0 v.1.1.0

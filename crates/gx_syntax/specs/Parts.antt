@@ -26,6 +26,7 @@ use Rattle.gx_syntax.specs.declared.tree.words.SideWord.{SideWord}
 use Rattle.gx_syntax.specs.declared.tree.words.SideWord.TheVariants as sides
 use Rattle.gx_syntax.specs.declared.parser.entries.ConstHead.{ConstHead}
 use Rattle.gx_syntax.specs.declared.parser.entries.ConstHead.TheVariants as heads
+use Rattle.gx_syntax.specs.declared.parser.sends.Tests.{Tests}
 use Rattle.gx_rows.specs.declared.value.ValueKind.{ValueKind}
 use Rattle.gx_rows.specs.declared.value.ValueKind.TheVariants as kinds
 
@@ -244,17 +245,20 @@ SpellsSends = Then SpellsSend (λ x. Then (Many SpellsSend) (λ xs. Made (x ∷ 
 unfoldable pub sends : List Tok → Result (List Send × List Tok) (List Tok)
 sends = seq a_send (λ x. seq (repeated (is_word (codes "to")) a_send) (λ xs. made (x ∷ xs)))
 
+abbrev pub tested : Option Expr → Option Expr → Tests
+tested vertices edges = record { vertices = vertices; edges = edges }
+
 -- the tests of a subgraph: `[ vertices expr ] [ edges expr ]`, at least one
 
-unfoldable pub SpellsTests : List Tok → Option Expr × Option Expr → Type 0
+unfoldable pub SpellsTests : List Tok → Tests → Type 0
 SpellsTests = Either
-    (Then (Led (codes "vertices")) (λ v. Then (Optional (Led (codes "edges"))) (λ e. Made (Some v, e))))
-    (Then (Led (codes "edges")) (λ e. Made (None, Some e)))
+    (Then (Led (codes "vertices")) (λ v. Then (Optional (Led (codes "edges"))) (λ e. Made (tested (Some v) e))))
+    (Then (Led (codes "edges")) (λ e. Made (tested None (Some e))))
 
-unfoldable pub tests : List Tok → Result ((Option Expr × Option Expr) × List Tok) (List Tok)
+unfoldable pub tests : List Tok → Result ((Tests) × List Tok) (List Tok)
 tests = choose (is_word (codes "vertices"))
-    (seq (led (codes "vertices")) (λ v. seq (optional (is_word (codes "edges")) (led (codes "edges"))) (λ e. made (Some v, e))))
-    (seq (led (codes "edges")) (λ e. made (None, Some e)))
+    (seq (led (codes "vertices")) (λ v. seq (optional (is_word (codes "edges")) (led (codes "edges"))) (λ e. made (tested (Some v) e))))
+    (seq (led (codes "edges")) (λ e. made (tested None (Some e))))
 
 -- `[ oriented ]`
 unfoldable pub SpellsOriented : List Tok → Bool → Type 0

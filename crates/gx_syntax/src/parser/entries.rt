@@ -3,9 +3,10 @@
 ghost use Rattle.std.specs.Prelude.{◌≡◌, ◌∷◌, List, Result};
 ghost use Rattle.gx_syntax.specs.Halts.{Reads, toks_of};
 ghost use Rattle.gx_syntax.specs.Marks as marks;
+ghost use Rattle.gx_syntax.specs.declared.parser.marks.Sign.TheVariants as signs;
 ghost use Rattle.gx_syntax.specs.Parts as parts;
 ghost use Rattle.gx_syntax.specs.Reading as reading;
-ghost use Rattle.gx_syntax.specs.Readers.{mapped, one};
+ghost use Rattle.gx_syntax.specs.Readers.{mapped, one, seq};
 ghost use Rattle.gx_syntax.specs.Toks.{Tok};
 
 use crate::lexeme::{Lexeme, unescape};
@@ -154,20 +155,30 @@ impl<'a> Cursor<'a> {
         Ok(head)
     }
 
+    /// Reads a comma and an entry.
+    fn next_entry<E: Entry>(&mut self, alloc: Global) -> Result<E, Halt>
+        ensures { Reads result (toks_of self.new.rest.now) (seq (one (marks.sign signs.Comma)) (λ _. E.reads) (toks_of self.old.rest.now)) }
+    {
+        self.sign(Sign::Comma)?;
+        E::read(self, alloc)
+    }
+
     /// Reads the entries behind the first, each with a comma before it.
-    #[tactic(auto, unfolding(crate::specs::Parts::further, crate::specs::Readers::repeated))]
     fn further<E: Entry>(&mut self, alloc: Global, first: E) -> Result<Items<E>, Halt>
         ensures { Reads result (toks_of self.new.rest.now) (mapped (λ xs. first ∷ xs) (parts.further E.reads) (toks_of self.old.rest.now)) }
     {
         let mut entries = Items::new(alloc);
         entries.push(first)?;
-        for _ in 0..=self.rest.len() {
+        // There are fewer entries than tokens.
+        let most = self.rest.len() + 1;
+        'entries: for _ in 0..most {
             if !self.is_sign_next(Sign::Comma) {
                 return Ok(entries);
             }
-            self.sign(Sign::Comma)?;
-            let entry = E::read(self, alloc)?;
-            entries.push(entry)?;
+            match self.next_entry(alloc) {
+                Ok(entry) => entries.push(entry)?,
+                Err(halt) => return Err(halt),
+            }
         }
         Err(Halt::Refused)
     }
