@@ -15,3 +15,4 @@ pub mod QuoteLemmas
 pub mod ReaderLemmas
 pub mod SymbolLemmas
 pub mod TakenLemmas
+pub mod Refusals

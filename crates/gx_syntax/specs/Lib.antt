@@ -15,3 +15,4 @@ pub mod Halts
 pub mod Marks
 pub mod Parts
 pub mod Forms
+pub mod Refusals
