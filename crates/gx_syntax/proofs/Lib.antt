@@ -13,6 +13,7 @@ pub mod PuttingLemmas
 pub mod QuoteLemmas
 pub mod ReaderLemmas
 pub mod Readers
+pub mod Refusals
 pub mod ShownBackLemmas
 pub mod ShownLemmas
 pub mod Sound

@@ -11,6 +11,7 @@ pub mod Proper
 pub mod Quotes
 pub mod Readers
 pub mod Reading
+pub mod Refusals
 pub mod Shown
 pub mod ShownBack
 pub mod Spacing
