@@ -13,10 +13,10 @@ both r s a b e h = absurd (let lie : ◌≡◌ {A = Result (List Stmt × List To
 
 goes_on : (front : List Tok) (t : Tok) (r : List Tok) → Begun SpellsScript (front ++ t ∷ []) → script (front ++ t ∷ r) ≡ Err (t ∷ r) → ⊥
 goes_on front t r b e =
-  let regroup : ((front ++ t ∷ []) ++ b.rest) ++ [] ≡ front ++ t ∷ b.rest = simp (append_assoc, append-nil) in
-  let read : script (((front ++ t ∷ []) ++ b.rest) ++ []) ≡ Ok (b.value, []) = script_faithful.takes ((front ++ t ∷ []) ++ b.rest) [] b.value b.spells tt in
-  let stops : script (front ++ t ∷ b.rest) ≡ Err (t ∷ b.rest) = script_faithful.keeps.local front t r b.rest None e in
-  both (script (front ++ t ∷ b.rest)) b.value [] (t ∷ b.rest) (ap script (sym regroup) ∙ read) stops
+    let regroup : ((front ++ t ∷ []) ++ b.rest) ++ [] ≡ front ++ t ∷ b.rest = simp (append_assoc, append-nil) in
+    let read : script (((front ++ t ∷ []) ++ b.rest) ++ []) ≡ Ok (b.value, []) = script_faithful.takes ((front ++ t ∷ []) ++ b.rest) [] b.value b.spells tt in
+    let stops : script (front ++ t ∷ b.rest) ≡ Err (t ∷ b.rest) = script_faithful.keeps.local front t r b.rest None e in
+    both (script (front ++ t ∷ b.rest)) b.value [] (t ∷ b.rest) (ap script (sym regroup) ∙ read) stops
 
 none_on : (front rest : List Tok) → script (front ++ rest) ≡ Err rest → NoneGoesOn front rest
 none_on front [] e = λ s d. both (script (front ++ [])) s [] [] (script_faithful.takes front [] s d tt) e
@@ -24,11 +24,11 @@ none_on front (t ∷ r) e = λ b. goes_on front t r b e
 
 pub refused : (ts rest : List Tok) → script ts ≡ Err rest → Refused ts rest
 refused ts rest e =
-  let told : Halted SpellsScript ts rest = subst (λ r. Tells SpellsScript ts r) e (script_faithful.keeps.tells ts) in
-  record { front = told.front; whole = told.whole; begins = told.begun; none = none_on told.front rest (ap script (sym told.whole) ∙ e) }
+    let told : Halted SpellsScript ts rest = subst (λ r. Tells SpellsScript ts r) e (script_faithful.keeps.tells ts) in
+    record { front = told.front; whole = told.whole; begins = told.begun; none = none_on told.front rest (ap script (sym told.whole) ∙ e) }
 
 pub reads_each : (ts : List Tok) (s : List Stmt) → SpellsScript ts s → script ts ≡ Ok (s, [])
 reads_each ts s d = ap script (sym append-nil-is) ∙ script_faithful.takes ts [] s d tt
   where
-  append-nil-is : ts ++ [] ≡ ts
-  append-nil-is = append-nil ts
+    append-nil-is : ts ++ [] ≡ ts
+    append-nil-is = append-nil ts
