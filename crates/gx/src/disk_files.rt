@@ -5,9 +5,8 @@ ghost use Rattle.std.proofs.Common.{rules};
 ghost use Rattle.gx_outside.specs.Faults.{Rose};
 
 use gx_outside::{Failed, Files};
-use std::fs;
 use std::io::Read;
-use std::rt;
+use std::{fs, rt};
 
 /// The files that the operating system has, by their paths. It tells nothing of what they hold, and
 /// counts its faults, an absent file among them.

@@ -1,5 +1,5 @@
 -- The whole number that a text writes: what `parse` says of it, and that only text writes one.
-use Rattle.std.proofs.Common.{◌≡◌, ◌∷◌, [], ◌<◌, ◌^◌, ℕ, ℤ, Bool, List, Option, None, Some, Result, Ok, Err, true, false, length, refl, sym, arith, zero, suc, get_or, inl, inr}
+use Rattle.std.proofs.Common.{◌≡◌, ◌∷◌, [], ◌<◌, ℕ, ℤ, Bool, List, None, Some, Result, Ok, Err, true, false, refl, sym, arith, zero, suc, get_or, inl, inr}
 use Rattle.std.proofs.lemmas.Bool.{ltb-true, lt-ltb}
 use Rattle.std.proofs.lemmas.Bool.Decides.{eqb_tells}
 use Rattle.std.proofs.lemmas.Str.{IsUtf8-from_ascii}
@@ -13,6 +13,7 @@ use Rattle.std.specs.Str.Parse.{AllDigits, IsNumeral, ParsesSigned, digits_value
 use Rattle.csv.specs.Records.{field_at}
 use Rattle.gx_load.specs.Cells.{cut, fits_64_bits, int_of, is_numeral, number_of}
 
+-- the test of the definition and that of `parse`
 digits : IsNumeralModel (λ ds. all_ascii_digits ds ≡ true) (digits_value 10)
 digits = numerals_by_value (λ ds. all_ascii_digits ds ≡ true) tells_all_ascii_digits
 
@@ -32,6 +33,7 @@ fits_back : (z : ℤ) → FitsSigned w64 z → fits_64_bits z ≡ true
 fits_back (pos n) h = lt-ltb _ _ h.sfits
 fits_back (negsuc n) h = lt-ltb _ _ h.sfits
 
+-- a number is written only where both tests pass
 chosen : (a b : Bool) (z : ℤ) → (a ≡ true → b ≡ true → ⊥) → (if a && b then Some z else None) ≡ None
 chosen true true z h = absurd (h refl refl)
 chosen true false z h = refl
@@ -49,21 +51,27 @@ unfolding number_of
 number_of-parsed text (Ok z) h = rw (numeral_back _ h.0.0, fits_back _ h.0.1, h.1) refl
 number_of-parsed text (Err e) h = sym (no_number text h)
 
+-- what the proof of `number_of` is found by
+pub ruleset parsing = (number_of-parsed)
+
 -- a byte before ASCII is ASCII
 longer : (c : ℕ) (cs : List ℕ) → c < 128 → IsAscii cs → IsAscii (c ∷ cs)
 longer c cs low rest zero = low
 longer c cs low rest (suc i) = rest i
 
+-- so is a text of digits after a sign or none
 sign_then_digits : (c : ℕ) (cs : List ℕ) → AllDigits 10 (without_leading_sign (c ∷ cs)) → IsAscii (c ∷ cs)
 sign_then_digits c cs h =
     elim (eqb_tells c 45) [
-      inl minus ↦ longer c cs (omega (arith, minus.1)) (IsAscii-from_digits cs (rw minus.0 at h))
-    | inr other ↦ elim (eqb_tells c 43) [
-          inl plus ↦ longer c cs (omega (arith, plus.1)) (IsAscii-from_digits cs (rw (other.0, plus.0) at h))
-        | inr digit ↦ IsAscii-from_digits (c ∷ cs) (rw (other.0, digit.0) at h) ] ]
+      | inl minus ↦ longer c cs (omega (arith, minus.1)) (IsAscii-from_digits cs (rw minus.0 at h))
+      | inr other ↦ elim (eqb_tells c 43) [
+        | inl plus ↦ longer c cs (omega (arith, plus.1)) (IsAscii-from_digits cs (rw (other.0, plus.0) at h))
+        | inr digit ↦ IsAscii-from_digits (c ∷ cs) (rw (other.0, digit.0) at h)
+      ]
+    ]
 
 -- a text that writes a number is UTF-8
-pub IsUtf8-numeral : (text : List ℕ) → IsNumeral 10 (without_leading_sign text) → IsUtf8 text
+IsUtf8-numeral : (text : List ℕ) → IsNumeral 10 (without_leading_sign text) → IsUtf8 text
 IsUtf8-numeral [] h = absurd (omega (arith, h.0))
 IsUtf8-numeral (c ∷ cs) h = IsUtf8-from_ascii (c ∷ cs) (sign_then_digits c cs h.1)
 

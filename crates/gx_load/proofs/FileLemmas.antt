@@ -1,5 +1,5 @@
 -- The rows of a file, record by record.
-use Rattle.std.proofs.Common.{◌≡◌, ◌+◌, ◌<◌, ◌≤◌, ◌∙◌, [], ◌∷◌, ◌++◌, ℕ, List, Result, Ok, Err, nat_lt, true, false, refl, sym, ap}
+use Rattle.std.proofs.Common.{◌≡◌, ◌+◌, ◌<◌, ◌≤◌, ◌∙◌, [], ◌∷◌, ◌++◌, ℕ, List, Result, Ok, Err, refl, sym, ap}
 use Rattle.std.proofs.lemmas.Bool.{le-ltb, lt-ltb}
 use Rattle.gx_rows.specs.Steps.{one_more, with_front, with_front-done, with_front-one_more, with_front-stop}
 use Rattle.gx_load.specs.Loading.{Loaded, MOST_ROWS, row_of, rows_from}
@@ -9,7 +9,7 @@ use Rattle.gx_load.specs.declared.load_stop.LoadStop.TheVariants as load_stop
 -- the rows from a record on, within the most rows of a file
 rows_from-step : (keys width : ℕ) (places : List ℕ) (row : ℕ) (fields : List (List ℕ)) (rest : List (List (List ℕ)))
     → row ≤ MOST_ROWS → rows_from keys width places row (fields ∷ rest)
-      ≡ one_more (row_of keys width places row fields) (rows_from keys width places (row + 1) rest)
+    ≡ one_more (row_of keys width places row fields) (rows_from keys width places (row + 1) rest)
 unfolding rows_from
 rows_from-step keys width places row fields rest few = rw (le-ltb MOST_ROWS row few) refl
 

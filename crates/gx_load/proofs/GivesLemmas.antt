@@ -1,7 +1,6 @@
--- Answers that stop, and lists made entry by entry.
-use Rattle.std.proofs.Common.{◌≡◌, ◌∙◌, List, [], Result, Ok, Err, refl, sym, ap}
+-- Answers that stop.
+use Rattle.std.proofs.Common.{◌≡◌, Result, Ok, Err}
 use Rattle.std.specs.Result.{IsErrAnd}
-use Rattle.gx_rows.specs.Steps.{one_more, with_front, with_front-stop}
 use Rattle.gx_load.specs.Answers.{Gives}
 use Rattle.gx_load.specs.declared.load_stop.LoadStop.{LoadStop}
 use Rattle.gx_load.specs.declared.load_stop.LoadStop.TheVariants as load_stop
@@ -30,8 +29,3 @@ pub Gives-carried : {A B C D : Type 0} (inner : A → B) (outer : C → D) (answ
     → IsErrAnd answer (λ e. e ≡ stop) → Gives inner (Err stop) part → (part ≡ Err stop → whole ≡ Err stop) → Gives outer answer whole
 Gives-carried inner outer (Ok x) stop part whole h given up = absurd h
 Gives-carried inner outer (Err d) stop part whole h given up = rw h (Gives-passed inner outer stop part whole given up)
-
--- before any entry
-pub with_front-none : {A E : Type 0} (rest : Result (List A) E) → with_front [] rest ≡ rest
-with_front-none (Ok xs) = refl
-with_front-none (Err e) = refl

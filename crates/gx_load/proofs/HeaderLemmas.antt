@@ -1,5 +1,5 @@
 -- The search for a name in a header, field by field.
-use Rattle.std.proofs.Common.{◌≡◌, ◌+◌, ◌++◌, ◌⊎◌, inl, inr, length-append, ◌≤◌, slice_get, Result, Ok, [], ◌∷◌, ℕ, List, Option, None, Some, true, false, length, map, drop, refl, zero, suc, add-one}
+use Rattle.std.proofs.Common.{◌≡◌, ◌+◌, ◌++◌, ◌⊎◌, inl, inr, length-append, ◌≤◌, slice_get, Ok, [], ◌∷◌, ℕ, List, Option, None, Some, true, false, length, map, drop, refl, zero, suc, add-one}
 use Rattle.std.proofs.lemmas.List.{drop_all, length-map}
 use Rattle.std.proofs.Math.Seq.{drop-nil}
 use Rattle.std.specs.List.{position_from}
@@ -15,7 +15,7 @@ abbrev pub place_from : ℕ → List ℕ → List (List ℕ) → Option ℕ
 place_from place name header = position_from (λ n. bytes_eq n name) place (map cut (drop place header))
 
 -- the field that is at a place comes first of those from there on
-pub drop-field : (fields : List (List ℕ)) (place : ℕ) (field : List ℕ)
+drop-field : (fields : List (List ℕ)) (place : ℕ) (field : List ℕ)
     → field_at fields place ≡ Some field → drop place fields ≡ field ∷ drop (suc place) fields
 unfolding field_at
 drop-field [] place field e = cc e
@@ -23,28 +23,31 @@ drop-field (f ∷ fs) zero field e = cc e
 drop-field (f ∷ fs) (suc i) field e = drop-field fs i field e
 
 -- the same of any list
-pub drop-entry : {A : Type 0} (xs : List A) (i : ℕ) (x : A) → slice_get xs i ≡ Some x → drop i xs ≡ x ∷ drop (suc i) xs
+drop-entry : {A : Type 0} (xs : List A) (i : ℕ) (x : A) → slice_get xs i ≡ Some x → drop i xs ≡ x ∷ drop (suc i) xs
 drop-entry [] i x e = cc e
 drop-entry (y ∷ ys) zero x e = cc e
 drop-entry (y ∷ ys) (suc i) x e = drop-entry ys i x e
 
 -- past the last field there is none
-pub drop-no_field : (fields : List (List ℕ)) (place : ℕ) → field_at fields place ≡ None → drop place fields ≡ []
+drop-no_field : (fields : List (List ℕ)) (place : ℕ) → field_at fields place ≡ None → drop place fields ≡ []
 unfolding field_at
 drop-no_field [] place e = drop-nil place
 drop-no_field (f ∷ fs) zero e = cc e
 drop-no_field (f ∷ fs) (suc i) e = drop-no_field fs i e
 
+-- a field of another name is passed over
 pub place_from-other : (name : List ℕ) (header : List (List ℕ)) (place : ℕ) (field : List ℕ)
     → field_at header place ≡ Some field → bytes_eq (cut field) name ≡ false
     → place_from place name header ≡ place_from (place + 1) name header
 place_from-other name header place field e other = rw (drop-field header place field e, other, add-one) refl
 
+-- a field of the name is its first place
 pub place_from-same : (name : List ℕ) (header : List (List ℕ)) (place : ℕ) (field : List ℕ)
     → field_at header place ≡ Some field → bytes_eq (cut field) name ≡ true
     → place_from place name header ≡ Some place
 place_from-same name header place field e same = rw (drop-field header place field e, same) refl
 
+-- past the last field the name has no place
 pub place_from-none : (name : List ℕ) (header : List (List ℕ)) (place : ℕ)
     → field_at header place ≡ None → place_from place name header ≡ None
 place_from-none name header place e = rw (drop-no_field header place e) refl
@@ -56,6 +59,7 @@ pub places_from-step : (column : ℕ) (names : List (List ℕ)) (name : List ℕ
 unfolding places_from
 places_from-step column names name header e = rw (drop-entry names column name e, add-one) refl
 
+-- past the last column no place is left
 pub places_from-done : (column : ℕ) (names : List (List ℕ)) (header : List (List ℕ))
     → length names ≤ column → places_from column (drop column names) header ≡ Ok []
 unfolding places_from

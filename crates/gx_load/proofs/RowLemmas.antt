@@ -10,7 +10,7 @@ use Rattle.gx_load.specs.declared.load_stop.LoadStop.{LoadStop}
 values_from-step : (row column place : ℕ) (places : List ℕ) (fields : List (List ℕ))
     → column < length places → place ≡ get_or places column place
     → values_from row column (drop column places) fields
-      ≡ one_more (value_at row column place fields) (values_from row (column + 1) (drop (column + 1) places) fields)
+    ≡ one_more (value_at row column place fields) (values_from row (column + 1) (drop (column + 1) places) fields)
 unfolding values_from
 values_from-step row column place places fields lt here = rw (drop-cons places column place lt, ← here, add-one) refl
 

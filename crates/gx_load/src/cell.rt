@@ -36,6 +36,7 @@ pub(crate) fn cut(text: &[u8]) -> &[u8]
 }
 
 // The whole number that a text writes, if it writes one.
+#[tactic(auto, using(crate::proofs::CellLemmas::parsing))]
 fn number_of(text: &str) -> Option<i64>
     ensures { result ≡ number_of text.now }
 {

@@ -61,7 +61,12 @@ fn name_at(keys: u32, columns: &RowType, column: u32) -> &str
 }
 
 // The places of the key columns and then of these columns.
-fn places_of(alloc: Global, keys: u32, columns: &RowType, header: &ByteRecord) -> Result<Vec<usize>, LoadStop>
+fn places_of(
+    alloc: Global,
+    keys: u32,
+    columns: &RowType,
+    header: &ByteRecord,
+) -> Result<Vec<usize>, LoadStop>
     requires keyed { (keys ≡ 1) ⊎ (keys ≡ 2) }
     requires few { keys + length columns.now < 2 ^ 32 }
     ensures places { Gives (λ v. v.items) result (places_from 0 (key_names keys ++ names_of columns.now) (fields_of header.now)) }
@@ -92,7 +97,12 @@ impl Header {
     /// # Errors
     ///
     /// `Data` with the first column that the header lacks, `NoMemory`.
-    pub(crate) fn of(alloc: Global, keys: u32, columns: &RowType, fields: &ByteRecord) -> Result<Header, LoadStop>
+    pub(crate) fn of(
+        alloc: Global,
+        keys: u32,
+        columns: &RowType,
+        fields: &ByteRecord,
+    ) -> Result<Header, LoadStop>
         requires keyed { (keys ≡ 1) ⊎ (keys ≡ 2) }
         requires few { keys + length columns.now < 2 ^ 32 }
         ensures places { Gives (λ h. h.places.items) result (places_from 0 (key_names keys ++ names_of columns.now) (fields_of fields.now)) }

@@ -47,7 +47,12 @@ fn second_key(header: &Header, row: u32, fields: &ByteRecord) -> Result<i64, Loa
 }
 
 // The values of a row, in the order of its columns.
-fn values_of(alloc: Global, header: &Header, row: u32, fields: &ByteRecord) -> Result<Vec<Value>, LoadStop>
+fn values_of(
+    alloc: Global,
+    header: &Header,
+    row: u32,
+    fields: &ByteRecord,
+) -> Result<Vec<Value>, LoadStop>
     ensures values { Gives (λ v. v.items) result (values_from row header.now.keys (drop header.now.keys header.now.places.items) (fields_of fields.now)) }
     ensures few { IfOk result (λ v. vec_len v < 2 ^ 32) }
 {
@@ -61,7 +66,12 @@ fn values_of(alloc: Global, header: &Header, row: u32, fields: &ByteRecord) -> R
 }
 
 // The keys and the values of a row.
-fn cells_of(alloc: Global, header: &Header, row: u32, fields: &ByteRecord) -> Result<(Vid, Vid, Row), LoadStop>
+fn cells_of(
+    alloc: Global,
+    header: &Header,
+    row: u32,
+    fields: &ByteRecord,
+) -> Result<(Vid, Vid, Row), LoadStop>
     ensures { Gives (λ r. r) result (cells_of header.now.keys header.now.places.items row (fields_of fields.now)) }
 {
     let first = int_at(row, 0, header.places[0], fields)?;
@@ -75,7 +85,12 @@ fn cells_of(alloc: Global, header: &Header, row: u32, fields: &ByteRecord) -> Re
 /// # Errors
 ///
 /// `Data` with the first refused place, `NoMemory`.
-pub(crate) fn row_of(alloc: Global, header: &Header, row: u32, fields: &ByteRecord) -> Result<(Vid, Vid, Row), LoadStop>
+pub(crate) fn row_of(
+    alloc: Global,
+    header: &Header,
+    row: u32,
+    fields: &ByteRecord,
+) -> Result<(Vid, Vid, Row), LoadStop>
     ensures { Gives (λ r. r) result (row_of header.now.keys header.now.width header.now.places.items row (fields_of fields.now)) }
 {
     if fields.len() == header.width {

@@ -41,6 +41,13 @@ impl Calls {
         self.made
     }
 
+    /// How many faults the calls met.
+    pub(crate) fn fault_count(&self) -> u64
+        ensures { result ≡ self.now.faults }
+    {
+        self.faults
+    }
+
     /// Counts a call, and says whether it fails by its number. That is a fault, which is counted.
     pub(crate) fn falters(&mut self) -> bool
         ensures fails { result ≡ fails_next self.old }

@@ -13,6 +13,8 @@ mod files;
 mod mem_files;
 mod mem_sink;
 mod sink;
+#[cfg(test)]
+mod tests;
 mod writing;
 
 pub use failed::Failed;

@@ -61,6 +61,13 @@ impl MemFiles {
             calls: Calls::of(failing),
         }
     }
+
+    /// How many faults the calls met, up to the last number of `u64`.
+    pub fn fault_count(&self) -> u64
+        ensures { result ≡ self.now.counts.faults }
+    {
+        self.calls.fault_count()
+    }
 }
 
 impl Files for MemFiles {

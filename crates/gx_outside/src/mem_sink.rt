@@ -73,6 +73,13 @@ impl MemSink {
     {
         self.bytes.as_slice()
     }
+
+    /// How many faults the writes met, up to the last number of `u64`.
+    pub fn fault_count(&self) -> u64
+        ensures { result ≡ self.now.counts.faults }
+    {
+        self.calls.fault_count()
+    }
 }
 
 impl Sink for MemSink {

@@ -10,6 +10,8 @@ mod limit_kind;
 mod no_memory;
 mod row;
 mod row_type;
+#[cfg(test)]
+mod tests;
 mod text;
 mod value;
 mod vid;

@@ -1,7 +1,8 @@
 -- The columns of a script, one by one as the loop reads them.
 use Rattle.std.proofs.Common.{◌≡◌, ℕ, suc, ◌+◌, ◌-◌, ◌<◌, ◌≤◌, List, [], ◌∷◌, ◌++◌, Option, Some, None, refl, sym, ap, ◌∙◌, append_assoc, arith}
+use Rattle.std.specs.Str.{byte}
 use Rattle.gx_run.specs.Spelling.{◌>>=◌, symbol_at}
-use Rattle.gx_run.specs.Scripts.{column_at, columns_at}
+use Rattle.gx_run.specs.Scripts.{column_at, columns_at, with_name}
 
 -- names that stand already, and then those that are read
 abbrev pub with_front : List (List ℕ) → Option (List (List ℕ) × List ℕ) → Option (List (List ℕ) × List ℕ)
@@ -16,13 +17,13 @@ abbrev pub IsSoFar : ℕ → ℕ → List (List ℕ) → List ℕ → Option (Li
 IsSoFar most i front text whole = with_front front (columns_at (most - i) text) ≡ whole
 
 regroup : (front : List (List ℕ)) (name : List ℕ) (read : Option (List (List ℕ) × List ℕ))
-    → with_front front (read >>= λ others. Some (name ∷ others.0, others.1)) ≡ with_front (front ++ name ∷ []) read
+    → with_front front (with_name name read) ≡ with_front (front ++ name ∷ []) read
 regroup front name None = refl
 regroup front name (Some x) = ap (λ (names : List (List ℕ)). Some (names, x.1)) (simp append_assoc)
 
 -- behind a comma comes the next column
 pub goes_on : (most i : ℕ) (front : List (List ℕ)) (text name behind next : List ℕ) (whole : Option (List (List ℕ) × List ℕ)) → i < most
-    → Some (name, behind) ≡ column_at text → None ≡ symbol_at 41 behind → Some next ≡ symbol_at 44 behind
+    → Some (name, behind) ≡ column_at text → None ≡ symbol_at (byte ")") behind → Some next ≡ symbol_at (byte ",") behind
     → IsSoFar most i front text whole → IsSoFar most (i + 1) (front ++ name ∷ []) next whole
 unfolding columns_at
 goes_on most i front text name behind next whole lt column close comma so_far =
@@ -31,7 +32,7 @@ goes_on most i front text name behind next whole lt column close comma so_far =
 
 -- behind a parenthesis comes none
 pub ends : (most i : ℕ) (front : List (List ℕ)) (text name behind rest : List ℕ) (whole : Option (List (List ℕ) × List ℕ)) → i < most
-    → Some (name, behind) ≡ column_at text → Some rest ≡ symbol_at 41 behind
+    → Some (name, behind) ≡ column_at text → Some rest ≡ symbol_at (byte ")") behind
     → IsSoFar most i front text whole → Some (front ++ name ∷ [], rest) ≡ whole
 unfolding columns_at
 ends most i front text name behind rest whole lt column close so_far =
@@ -48,7 +49,7 @@ no_column most i front text whole lt column so_far =
 
 -- and one with neither a comma nor a parenthesis behind a column
 pub no_mark : (most i : ℕ) (front : List (List ℕ)) (text name behind : List ℕ) (whole : Option (List (List ℕ) × List ℕ)) → i < most
-    → Some (name, behind) ≡ column_at text → None ≡ symbol_at 41 behind → None ≡ symbol_at 44 behind
+    → Some (name, behind) ≡ column_at text → None ≡ symbol_at (byte ")") behind → None ≡ symbol_at (byte ",") behind
     → IsSoFar most i front text whole → None ≡ whole
 unfolding columns_at
 no_mark most i front text name behind whole lt column close comma so_far =

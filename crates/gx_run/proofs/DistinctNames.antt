@@ -1,11 +1,11 @@
 -- Names that stand once.
-use Rattle.std.proofs.Common.{◌≡◌, ℕ, suc, ◌+◌, ◌<◌, length, get_or, take, drop, ◌-◌, add-one, drop-cons, Bool, true, false, not, List, [], ◌∷◌, map, refl, sym, ap, ◌∙◌}
+use Rattle.std.proofs.Common.{◌≡◌, ℕ, suc, ◌+◌, ◌<◌, length, get_or, take, drop, ◌-◌, add-one, drop-cons, Bool, true, false, not, List, [], ◌∷◌, map, refl, sym, ap}
 use Rattle.std.proofs.lemmas.List.{take_rest}
 use Rattle.std.proofs.lemmas.List.Elements.{All-head, All-tail}
 use Rattle.std.specs.List.{All, AllByRecursion, IsDistinct, list_any}
 use Rattle.std.specs.Prelude.{◌&&◌, ◌||◌}
 use Rattle.std.specs.Str.{bytes_eq}
-use Rattle.gx_rows.specs.Columns.{Column, HasDistinctNames, names_of}
+use Rattle.gx_rows.specs.Columns.{Column, names_of}
 use Rattle.gx_run.specs.Scripts.{are_distinct, int_column}
 use Rattle.gx_rows.specs.declared.value.ValueKind.TheVariants.{Int}
 

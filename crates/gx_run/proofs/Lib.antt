@@ -5,4 +5,4 @@ pub mod Ordered
 pub mod TableLemmas
 pub mod Takes
 pub mod Utf8
-pub mod Whole
+pub mod WholeScript

@@ -1,5 +1,5 @@
 -- Which bytes are UTF-8.
-use Rattle.std.proofs.Common.{◌≡◌, ℕ, ◌<◌, Bool, true, false, cond, List, [], ◌∷◌, Option, Some, None, Result, Ok, Err, refl, sym, ap, ◌∙◌, arith}
+use Rattle.std.proofs.Common.{◌≡◌, ℕ, ◌<◌, Bool, true, false, cond, List, [], ◌∷◌, Some, None, Result, Ok, Err, refl, arith}
 use Rattle.std.specs.Prelude.{IsOk, MatchResult}
 use Rattle.std.specs.List.{All, take_while}
 use Rattle.std.specs.Str.{IsUtf8, is_utf8}

@@ -1,5 +1,5 @@
 -- What a run comes to, over plain lists: the text that it prints, or the refusal that ends it.
-use Rattle.std.specs.Prelude.{ℕ, Bool, if◌then◌else◌, nat_lt, List, [], ◌∷◌, length, codes, Option, None, Some, ok_or, Result, Ok, Err}
+use Rattle.std.specs.Prelude.{ℕ, if◌then◌else◌, nat_lt, List, [], ◌∷◌, length, codes, Option, None, Some, ok_or, Result, Ok, Err}
 use Rattle.std.specs.List.{slice_get}
 use Rattle.std.specs.Str.{bytes_eq}
 use Rattle.gx_rows.specs.Columns.{Column, names_of}
@@ -28,6 +28,14 @@ script_word (command ∷ []) = None
 script_word (command ∷ name ∷ []) = if bytes_eq command (codes "run") then Some name else None
 script_word (command ∷ name ∷ more ∷ rest) = None
 
+-- the most bytes of a script
+abbrev pub most_script_bytes : ℕ
+most_script_bytes = 1048576
+
+-- the most bytes of a data file
+abbrev pub most_file_bytes : ℕ
+most_file_bytes = 33554432
+
 -- the bytes of a file, which must be there and have at most so many
 abbrev pub file_bytes : LimitKind → ℕ → List ℕ → Entries → Result (List ℕ) Status
 file_bytes kind most name held =
@@ -37,7 +45,7 @@ file_bytes kind most name held =
 -- the script of this name
 abbrev pub form_under : List ℕ → Entries → Result Form Status
 form_under name held =
-    file_bytes limit_kind.ScriptBytes 1048576 name held >>= λ bytes.
+    file_bytes limit_kind.ScriptBytes most_script_bytes name held >>= λ bytes.
     ok_or (script_of bytes) (status.Script (script_stop.Syntax 0 syntax_kind.Unexpected))
 
 -- the name of the column of a refused place, where the place has one
@@ -61,7 +69,7 @@ rows_or_refusal form (Err stop) = Err (refusal_of form stop)
 -- the rows of the script's data file
 abbrev pub rows_under : Form → Entries → Result (List Loaded) Status
 rows_under form held =
-    file_bytes limit_kind.FileBytes 33554432 form.file held >>= λ bytes.
+    file_bytes limit_kind.FileBytes most_file_bytes form.file held >>= λ bytes.
     rows_or_refusal form (loaded 1 form.columns bytes)
 
 -- what the script of this name prints

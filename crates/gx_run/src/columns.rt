@@ -4,7 +4,7 @@ ghost use Rattle.std.specs.Prelude.{◌≡◌, ◌<◌, ◌≤◌, ◌^◌, if�
 ghost use Rattle.std.specs.List.{list_any};
 ghost use Rattle.std.specs.Str.{bytes_eq};
 ghost use Rattle.gx_rows.specs.Columns.{names_of};
-ghost use Rattle.gx_run.specs.Scripts.{are_distinct, column_at, columns_at, is_taken};
+ghost use Rattle.gx_run.specs.Scripts.{are_distinct, column_at, columns_at, is_taken, most_columns};
 
 use crate::spelling::{keyword, symbol, word};
 use gx_rows::{NoMemory, RowType, Text, ValueKind};
@@ -43,7 +43,8 @@ pub(crate) fn columns(
     alloc: Global,
     text: &[u8],
 ) -> Result<Option<(Vec<(Text, ValueKind)>, &[u8])>, NoMemory>
-    ensures columns { IfOk result (λ r. option_map (λ s. (names_of s.0.items, s.1.now)) r ≡ columns_at MOST_COLUMNS text.now) }
+    ensures columns { IfOk result (λ r. option_map (λ s. (names_of s.0.items, s.1.now)) r
+        ≡ columns_at most_columns text.now) }
     ensures ints { IfOk result (λ r. IfSome r (λ s. All (λ c. c.1 ≡ ValueKind.Int) s.0.items)) }
     ensures few { IfOk result (λ r. IfSome r (λ s. vec_len s.0 ≤ MOST_COLUMNS)) }
 {
@@ -65,6 +66,7 @@ pub(crate) fn columns(
     Ok(None)
 }
 
+/// Whether a column has this name.
 fn has_name(columns: &[(Text, ValueKind)], name: &str) -> bool
     ensures { result ≡ list_any (λ c. bytes_eq name.now c.0) columns.now }
 {

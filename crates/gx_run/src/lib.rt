@@ -12,6 +12,8 @@ mod script;
 mod spelling;
 mod status;
 mod table;
+#[cfg(test)]
+mod tests;
 mod text;
 mod top;
 

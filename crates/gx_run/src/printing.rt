@@ -64,7 +64,13 @@ fn load_rows<F: Files>(
     ensures reads { Reads (F.held files.old) (F.faults files.old) (F.faults files.new) (λ rows. rows.items) result (rows_under form.now) }
     ensures asked { IfErr result (λ refusal. Names refusal (λ n. n ≡ form.now.file)) }
 {
-    let bytes = fetch(alloc, files, form.file.as_str(), LimitKind::FileBytes, FILE_BYTES)?;
+    let bytes = fetch(
+        alloc,
+        files,
+        form.file.as_str(),
+        LimitKind::FileBytes,
+        FILE_BYTES,
+    )?;
     match rows_of(alloc, bytes.as_slice(), 1, &form.columns) {
         Ok(rows) => Ok(rows),
         Err(stop) => Err(refusal(alloc, form, stop)),
@@ -72,11 +78,7 @@ fn load_rows<F: Files>(
 }
 
 // The text of the table of these rows.
-fn table_text_of(
-    alloc: Global,
-    form: &Form,
-    rows: Vec<(Vid, Vid, Row)>,
-) -> Result<Vec<u8>, Status>
+fn table_text_of(alloc: Global, form: &Form, rows: Vec<(Vid, Vid, Row)>) -> Result<Vec<u8>, Status>
     ensures text { IfOk result (λ text. text.items ≡ table_text form.now.columns (table (entries_of rows.items))) }
     ensures refused { IfErr result (λ refusal. refusal ≡ Status.NoMemory) }
 {

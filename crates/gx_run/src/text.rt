@@ -23,10 +23,10 @@ pub(crate) fn text_of(
     ensures { IfOk result (λ text. text.items ≡ table_text columns.now (entries_of rows.now)) }
 {
     let mut writer = WriterBuilder::new().from_writer(Vec::new(alloc));
-    let mut record = ByteRecord::new(alloc);
-    write_header(&mut writer, &mut record, columns)?;
+    let mut fields = ByteRecord::new(alloc);
+    write_header(&mut writer, &mut fields, columns)?;
     for (id, _, row) in rows {
-        write_entry(&mut writer, &mut record, *id, row)?;
+        write_entry(&mut writer, &mut fields, *id, row)?;
     }
     writer.into_inner().map_err(|_| NoMemory)
 }
@@ -35,22 +35,22 @@ pub(crate) fn text_of(
 #[tactic(auto, unfolding(crate::specs::Texts::header_line))]
 fn write_header(
     writer: &mut Writer<Vec<u8>>,
-    record: &mut ByteRecord,
+    fields: &mut ByteRecord,
     columns: &RowType,
 ) -> Result<(), NoMemory>
     requires { IsBetweenLines writer.old }
     ensures between { OnOk result (IsBetweenLines writer.new) }
     ensures text { OnOk result (text_so_far writer.new ≡ text_so_far writer.old ++ header_line columns.now) }
 {
-    put_header(record, columns)?;
-    write_line(writer, record)
+    put_header(fields, columns)?;
+    write_line(writer, fields)
 }
 
 // Writes the line of an entry. The record is made anew.
 #[tactic(auto, unfolding(crate::specs::Texts::entry_line))]
 fn write_entry(
     writer: &mut Writer<Vec<u8>>,
-    record: &mut ByteRecord,
+    fields: &mut ByteRecord,
     id: Vid,
     row: &Row,
 ) -> Result<(), NoMemory>
@@ -58,52 +58,52 @@ fn write_entry(
     ensures between { OnOk result (IsBetweenLines writer.new) }
     ensures text { OnOk result (text_so_far writer.new ≡ text_so_far writer.old ++ entry_line (id, row.now)) }
 {
-    put_entry(record, id, row)?;
-    write_line(writer, record)
+    put_entry(fields, id, row)?;
+    write_line(writer, fields)
 }
 
 // Makes the record of the header.
-fn put_header(record: &mut ByteRecord, columns: &RowType) -> Result<(), NoMemory>
-    ensures { OnOk result (fields_of record.new ≡ codes "id" ∷ names_of columns.now) }
+fn put_header(fields: &mut ByteRecord, columns: &RowType) -> Result<(), NoMemory>
+    ensures { OnOk result (fields_of fields.new ≡ codes "id" ∷ names_of columns.now) }
 {
-    record.clear();
-    record.push_field(b"id")?;
+    fields.clear();
+    fields.push_field(b"id")?;
     for i in 0..columns.len() {
-        record.push_field(columns.name(i).as_bytes())?;
+        fields.push_field(columns.name(i).as_bytes())?;
     }
     Ok(())
 }
 
 // Makes the record of an entry.
-fn put_entry(record: &mut ByteRecord, id: Vid, row: &Row) -> Result<(), NoMemory>
-    ensures { OnOk result (fields_of record.new ≡ signed_decimal id.0 ∷ map value_text row.now) }
+fn put_entry(fields: &mut ByteRecord, id: Vid, row: &Row) -> Result<(), NoMemory>
+    ensures { OnOk result (fields_of fields.new ≡ signed_decimal id.0 ∷ map value_text row.now) }
 {
-    record.clear();
-    push_int(record, id.0)?;
+    fields.clear();
+    push_int(fields, id.0)?;
     for value in row.as_slice() {
         match value {
-            Value::Int(number) => push_int(record, *number)?,
+            Value::Int(number) => push_int(fields, *number)?,
         }
     }
     Ok(())
 }
 
 // Adds the decimal text of a number to a record.
-fn push_int(record: &mut ByteRecord, number: i64) -> Result<(), NoMemory>
-    requires { partial_of record.old ≡ [] }
-    ensures fields { OnOk result (fields_of record.new ≡ fields_of record.old ++ signed_decimal number ∷ []) }
-    ensures partial { OnOk result (partial_of record.new ≡ []) }
+fn push_int(fields: &mut ByteRecord, number: i64) -> Result<(), NoMemory>
+    requires { partial_of fields.old ≡ [] }
+    ensures fields { OnOk result (fields_of fields.new ≡ fields_of fields.old ++ signed_decimal number ∷ []) }
+    ensures partial { OnOk result (partial_of fields.new ≡ []) }
 {
     let mut buffer = Buffer::new();
-    record.push_field(buffer.format(number).as_bytes())?;
+    fields.push_field(buffer.format(number).as_bytes())?;
     Ok(())
 }
 
 // Writes a record as a line.
-fn write_line(writer: &mut Writer<Vec<u8>>, record: &ByteRecord) -> Result<(), NoMemory>
+fn write_line(writer: &mut Writer<Vec<u8>>, fields: &ByteRecord) -> Result<(), NoMemory>
     requires { IsBetweenLines writer.old }
     ensures between { OnOk result (IsBetweenLines writer.new) }
-    ensures text { OnOk result (text_so_far writer.new ≡ text_so_far writer.old ++ row_text default_writer (fields_of record.now)) }
+    ensures text { OnOk result (text_so_far writer.new ≡ text_so_far writer.old ++ row_text default_writer (fields_of fields.now)) }
 {
-    writer.write_byte_record(record).map_err(|_| NoMemory)
+    writer.write_byte_record(fields).map_err(|_| NoMemory)
 }

@@ -1,4 +1,4 @@
-use Rattle.std.proofs.Common.{◌≡◌, sym, ◌∙◌}
+use Rattle.std.proofs.Common.{sym}
 use Rattle.gx_load.specs.Cells.{int_of}
 use Rattle.gx_load.proofs.CellLemmas.{number_of-not_utf8}
 use Rattle.gx_load.proofs.cell.int_of.Goals as goal

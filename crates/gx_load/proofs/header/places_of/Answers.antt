@@ -1,8 +1,8 @@
-use Rattle.std.proofs.Common.{◌≡◌, ◌≤◌, ◌+◌, ◌++◌, ◌∷◌, [], ◌∙◌, sym, ap, Ok, List, length, drop, arith, ℕ}
+use Rattle.std.proofs.Common.{◌≤◌, ◌++◌, ◌∙◌, sym, ap, List, length, arith, ℕ}
 use Rattle.csv.specs.Records.{fields_of}
 use Rattle.gx_rows.specs.Columns.{names_of}
-use Rattle.gx_rows.specs.Steps.{with_front, with_front-done, with_front-one_more, with_front-stop, one_more}
-use Rattle.gx_load.specs.Loading.{key_names, place_at, places_from}
+use Rattle.gx_rows.specs.Steps.{with_front, with_front-done, with_front-one_more, with_front-stop}
+use Rattle.gx_load.specs.Loading.{key_names}
 use Rattle.gx_load.proofs.GivesLemmas.{Gives-returned}
 use Rattle.gx_load.proofs.HeaderLemmas.{length-column_names, places_from-done, places_from-step}
 use Rattle.gx_load.proofs.header.places_of.Goals as goal
@@ -23,7 +23,8 @@ loop-column-preserved c =
           (sym (with_front-one_more c.loop-column.places.items c.in_ok-place_at.field-0 _ _ (sym c.in_ok-place_at.ensures))
           ∙ sym (ap (with_front c.loop-column.places.items) step) ∙ c.loop-column.invariant.so_far);
       filled = omega (arith, c.in_ok-push.ensures.len);
-      all = omega arith }
+      all = omega arith;
+    }
 
 pub returns-clause-places : goal.returns-clause-places
 returns-clause-places c =

@@ -11,4 +11,5 @@ invariant-loop-column l =
     record {
       so_far : with_front l.places.items (places_from l.column (drop l.column names) (fields_of l.header)) ≡ places_from 0 names (fields_of l.header);
       filled : vec_len l.places ≡ l.column;
-      all : l.count ≡ l.keys + length l.columns }
+      all : l.count ≡ l.keys + length l.columns;
+    }

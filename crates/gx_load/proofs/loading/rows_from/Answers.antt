@@ -1,6 +1,5 @@
-use Rattle.std.proofs.Common.{◌≡◌, ◌≤◌, ◌<◌, ◌∷◌, [], arith, ℕ, List, sym}
+use Rattle.std.proofs.Common.{◌≡◌, ◌∷◌, arith}
 use Rattle.csv.specs.Records.{fields_of}
-use Rattle.gx_load.specs.Loading.{rows_from}
 use Rattle.gx_load.proofs.FileLemmas.{rows_from-done, rows_from-more, rows_from-stop, rows_from-too_many}
 use Rattle.gx_load.proofs.GivesLemmas.{Gives-carried}
 use Rattle.gx_load.proofs.loading.rows_from.Goals as goal
@@ -16,7 +15,7 @@ returns-in_err-row_of c =
     let next : c.rows.records ≡ fields_of c.take.new.row ∷ c.take.new.self = rw c.if-branch.true at c.in_ok-take.ensures in
     Gives-carried (λ r. r) (λ v. v.items) c.from_residual-in_err-row_of.result c.in_err-row_of.field-0.0 _ _ c.from_residual-in_err-row_of.ensures.1 c.in_err-row_of.ensures
     (λ refused. rows_from-stop c.rows.rows.items c.args.header.now.keys c.args.header.now.width c.args.header.now.places.items c.rows.row
-        (fields_of c.take.new.row) c.rows.records c.take.new.self _ c.in_err-row_of.field-0.0 (omega arith) next refused c.rows.invariant.so_far)
+    (fields_of c.take.new.row) c.rows.records c.take.new.self _ c.in_err-row_of.field-0.0 (omega arith) next refused c.rows.invariant.so_far)
 
 pub rows-preserved : goal.rows-preserved
 rows-preserved c =
@@ -25,7 +24,8 @@ rows-preserved c =
       so_far = rw c.in_ok-push.ensures.items
           (rows_from-more c.rows.rows.items c.args.header.now.keys c.args.header.now.width c.args.header.now.places.items c.rows.row
           (fields_of c.take.new.row) c.rows.records c.take.new.self _ c.in_ok-row_of.field-0 (omega arith) next c.in_ok-row_of.ensures c.rows.invariant.so_far);
-      few = omega arith }
+      few = omega arith;
+    }
 
 pub returns : goal.returns
 returns c =

@@ -7,7 +7,8 @@ abbrev pub invariant-rows : goal.invariant-rows
 invariant-rows l = record {
   so_far : with_front l.rows.items (rows_from l.header.keys l.header.width l.header.places.items l.row l.records)
       ≡ rows_from l.header.keys l.header.width l.header.places.items 1 l.fn.records;
-  few : l.row ≤ 500001 }
+  few : l.row ≤ 500001;
+}
 
 abbrev pub decreases-rows : goal.decreases-rows
 decreases-rows l = length l.records

@@ -1,4 +1,4 @@
-use Rattle.std.proofs.Common.{◌≡◌, sym, ◌∙◌, get_or, []}
+use Rattle.std.proofs.Common.{sym}
 use Rattle.csv.proofs.RecordFacts.{field-get}
 use Rattle.csv.specs.Records.{fields_of}
 use Rattle.gx_load.proofs.CellLemmas.{int_of-no_field}

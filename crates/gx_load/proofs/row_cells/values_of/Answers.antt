@@ -1,4 +1,4 @@
-use Rattle.std.proofs.Common.{◌≡◌, ◌≤◌, ◌<◌, ◌∙◌, sym, arith}
+use Rattle.std.proofs.Common.{◌∙◌, sym, arith}
 use Rattle.csv.specs.Records.{fields_of}
 use Rattle.gx_rows.specs.Steps.{with_front-done}
 use Rattle.gx_load.proofs.GivesLemmas.{Gives-returned}
@@ -17,7 +17,8 @@ loop-column-preserved c = record {
       (values_from-more c.loop-column.values.items c.args.row c.loop-column.column c.index.result.now c.args.header.now.places.items (fields_of c.args.fields.now)
       _ c.in_ok-value.value (omega arith) c.index.ensures c.in_ok-value.ensures c.loop-column.invariant.so_far);
   filled = omega (arith, c.in_ok-push.ensures.len);
-  all = omega arith }
+  all = omega arith;
+}
 
 pub returns-clause-values : goal.returns-clause-values
 returns-clause-values c =

@@ -1,4 +1,4 @@
-use Rattle.std.proofs.Common.{◌≡◌, ◌+◌, length, vec_len, drop}
+use Rattle.std.proofs.Common.{◌≡◌, ◌+◌, vec_len, drop}
 use Rattle.csv.specs.Records.{fields_of}
 use Rattle.gx_rows.specs.Steps.{with_front}
 use Rattle.gx_load.specs.Loading.{values_from}
@@ -9,4 +9,5 @@ invariant-loop-column l = record {
   so_far : with_front l.values.items (values_from l.row l.column (drop l.column l.header.places.items) (fields_of l.fields))
       ≡ values_from l.row l.header.keys (drop l.header.keys l.header.places.items) (fields_of l.fields);
   filled : l.header.keys + vec_len l.values ≡ l.column;
-  all : l.count ≡ vec_len l.header.places }
+  all : l.count ≡ vec_len l.header.places;
+}

@@ -1,10 +1,9 @@
-use Rattle.std.proofs.Common.{◌≡◌, ◌∙◌, ◌++◌, ◌∷◌, [], ℕ, ap, refl, List, arith}
-use Rattle.std.specs.List.{All}
+use Rattle.std.proofs.Common.{◌≡◌, ◌++◌, ◌∷◌, [], ℕ, refl, List, arith}
 use Rattle.std.proofs.lemmas.List.{map_push}
 use Rattle.std.proofs.lemmas.List.Elements.{All-nil, All-push}
 use Rattle.gx_rows.specs.Columns.{Column, names_of}
 use Rattle.gx_rows.specs.declared.value.ValueKind.TheVariants.{Int}
-use Rattle.gx_run.specs.Scripts.{columns_at, int_column}
+use Rattle.gx_run.specs.Scripts.{columns_at, int_column, most_columns}
 use Rattle.gx_run.proofs.ColumnSteps.{goes_on, ends, no_column, no_mark, too_many, with_front-nil}
 use Rattle.gx_run.proofs.columns.columns.Goals as goal
 
@@ -14,7 +13,7 @@ named items columns name kept is same = rw (is, same) (map_push (λ (c : Column)
 
 pub loop-init : goal.loop-init
 loop-init c = record {
-  so_far = rw c.new-columns.ensures.items (with_front-nil (columns_at 16 c.args.text.now));
+  so_far = rw c.new-columns.ensures.items (with_front-nil (columns_at most_columns c.args.text.now));
   ints = rw c.new-columns.ensures.items (All-nil (λ (x : Column). x.1 ≡ Int));
   few = omega arith;
 }

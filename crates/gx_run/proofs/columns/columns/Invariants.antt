@@ -2,14 +2,13 @@ use Rattle.std.proofs.Common.{◌≡◌, ◌≤◌, vec_len}
 use Rattle.std.specs.List.{All}
 use Rattle.gx_rows.specs.Columns.{names_of}
 use Rattle.gx_rows.specs.declared.value.ValueKind.TheVariants.{Int}
-use Rattle.gx_run.specs.Scripts.{columns_at}
-use Rattle.gx_run.specs.declared.columns.TheConstants.{MOST_COLUMNS}
+use Rattle.gx_run.specs.Scripts.{columns_at, most_columns}
 use Rattle.gx_run.proofs.ColumnSteps.{IsSoFar}
 use Rattle.gx_run.proofs.columns.columns.Given as goal
 
 abbrev pub invariant-loop : goal.invariant-loop
 invariant-loop l = record {
-  so_far : IsSoFar MOST_COLUMNS l.counter (names_of l.columns.items) l.rest (columns_at MOST_COLUMNS l.fn.text);
+  so_far : IsSoFar most_columns l.counter (names_of l.columns.items) l.rest (columns_at most_columns l.fn.text);
   ints : All (λ c. c.1 ≡ Int) l.columns.items;
   few : vec_len l.columns ≤ l.counter;
 }

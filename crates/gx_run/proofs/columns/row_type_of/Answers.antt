@@ -1,6 +1,5 @@
-use Rattle.std.proofs.Common.{◌≡◌, ◌∙◌, sym}
+use Rattle.std.proofs.Common.{sym}
 use Rattle.gx_rows.specs.Columns.{names_of}
-use Rattle.gx_run.specs.Scripts.{are_distinct}
 use Rattle.gx_run.proofs.DistinctNames.{distinct}
 use Rattle.gx_run.proofs.columns.row_type_of.Goals as goal
 

@@ -1,5 +1,4 @@
-use Rattle.std.proofs.Common.{◌≡◌}
-use Rattle.gx_run.proofs.Whole.{script_is}
+use Rattle.gx_run.proofs.WholeScript.{script_is}
 use Rattle.gx_run.proofs.script.form_of.Goals as goal
 
 pub returns-clause-form : goal.returns-clause-form

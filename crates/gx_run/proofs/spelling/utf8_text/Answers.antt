@@ -1,4 +1,4 @@
-use Rattle.std.proofs.Common.{◌≡◌, ◌∙◌, ap, Option, Some, List, ℕ}
+use Rattle.std.proofs.Common.{◌∙◌, ap, Some, List, ℕ}
 use Rattle.gx_run.proofs.Utf8.{utf8_taken, utf8_refused}
 use Rattle.gx_run.proofs.spelling.utf8_text.Goals as goal
 

@@ -9,4 +9,5 @@ loop-i-preserved c =
     let push = c.in_ok-push_field-2.ensures in
     record {
       fields = rw (push.fields, c.loop-i.invariant.whole, c.loop-i.invariant.fields, c.as_bytes.ensures.value, take_more_at (names_of c.args.columns.now) c.loop-i.i c.name.result.now c.name.ensures) refl;
-      whole = push.partial }
+      whole = push.partial;
+    }

@@ -7,5 +7,6 @@ use Rattle.gx_run.proofs.text.put_header.Given as goal
 -- `id` and the names so far are in the record
 abbrev pub invariant-loop-i : goal.invariant-loop-i
 invariant-loop-i l = record {
-  fields : fields_of l.record ≡ codes "id" ∷ take l.i (names_of l.columns);
-  whole : partial_of l.record ≡ [] }
+  fields : fields_of l.fields ≡ codes "id" ∷ take l.i (names_of l.columns);
+  whole : partial_of l.fields ≡ [];
+}

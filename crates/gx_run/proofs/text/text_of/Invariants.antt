@@ -9,4 +9,5 @@ use Rattle.gx_run.proofs.text.text_of.Given as goal
 abbrev pub invariant-loop-id : goal.invariant-loop-id
 invariant-loop-id l = record {
   between : IsBetweenLines l.writer;
-  so_far : text_so_far l.writer ≡ header_line l.columns ++ flat_map entry_line (entries_of (take l.id-index l.rows)) }
+  so_far : text_so_far l.writer ≡ header_line l.columns ++ flat_map entry_line (entries_of (take l.id-index l.rows));
+}

@@ -1,10 +1,10 @@
 -- A script, from its parts.
-use Rattle.std.proofs.Common.{◌≡◌, ℕ, Bool, true, false, not, cond, List, map, Option, Some, None, refl, sym, ap, ◌∙◌}
+use Rattle.std.proofs.Common.{◌≡◌, ℕ, Bool, true, false, not, cond, List, Some, None, refl, ap}
 use Rattle.std.specs.List.{All}
 use Rattle.std.specs.Str.{bytes_eq}
 use Rattle.gx_rows.specs.Columns.{Column, names_of}
 use Rattle.gx_rows.specs.declared.value.ValueKind.TheVariants.{Int}
-use Rattle.gx_run.specs.Scripts.{are_distinct, columns_at, int_column, load_at, print_at, script_of}
+use Rattle.gx_run.specs.Scripts.{are_distinct, columns_at, load_at, most_columns, print_at, script_of}
 use Rattle.gx_run.specs.declared.script.Form.{Form}
 use Rattle.gx_run.proofs.DistinctNames.{same_columns}
 
@@ -20,7 +20,7 @@ form file columns = record { file = file; columns = columns }
 
 -- what the parts of a text come to
 pub script_is : (text table file rest behind name : List ℕ) (columns kept : List Column)
-    → Some (table, file, rest) ≡ load_at text → Some (names_of columns, behind) ≡ columns_at 16 rest → Some name ≡ print_at behind
+    → Some (table, file, rest) ≡ load_at text → Some (names_of columns, behind) ≡ columns_at most_columns rest → Some name ≡ print_at behind
     → false ≡ not (bytes_eq name table) → All (λ c. c.1 ≡ Int) columns
     → Some kept ≡ cond (are_distinct (names_of columns)) (Some columns) None
     → Some (form file kept) ≡ script_of text

@@ -1,0 +1,4 @@
+pub mod Grid
+pub mod Mixing
+pub mod Places
+pub mod Sides

@@ -1,0 +1,22 @@
+//! Lineage: what is computed from what.
+//!
+//! A `Dag` is a graph of nodes, each computed from earlier ones. Every node is cut into the same
+//! number of parts, and one part of one node is a block. Contracts see a `Dag` as its number of
+//! parts and its list of nodes, and cite the blocks that a block is computed from. The crate stands
+//! on `gx_rows`; the machine that computes blocks on workers asks it for their inputs.
+#![tactic(auto)]
+
+mod block_id;
+mod dag;
+mod input;
+mod node;
+mod node_id;
+mod node_kind;
+#[cfg(test)]
+mod tests;
+
+pub use block_id::BlockId;
+pub use dag::Dag;
+pub use input::{Input, Pattern};
+pub use node_id::NodeId;
+pub use node_kind::NodeKind;

@@ -1,0 +1,5 @@
+mod Counting
+mod Joining
+mod PlaceLemmas
+mod Searching
+mod Writing

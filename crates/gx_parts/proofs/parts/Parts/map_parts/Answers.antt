@@ -1,0 +1,12 @@
+use Rattle.std.proofs.Common.{refl, arith}
+use Rattle.gx_parts.proofs.Numbered.{all_made, one_more}
+use Rattle.gx_parts.proofs.Pushed.{values_push}
+use Rattle.gx_parts.proofs.parts.Parts.map_parts.Goals as goal
+
+pub loop-i-preserved : goal.loop-i-preserved
+loop-i-preserved g c =
+    rw (values_push _ _ _ _ c.in_ok-push.ensures.items c.in_ok-new.ensures.ok)
+    (one_more c.part.result.now c.in_ok-answer.answer c.loop-i.invariant c.part.ensures (c.part.result, refl, c.in_ok-answer.ensures))
+
+pub returns : goal.returns
+returns g c = rw c.of.ensures (all_made c.loop-i.invariant (omega arith))
