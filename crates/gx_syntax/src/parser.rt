@@ -5,6 +5,7 @@ mod entries;
 mod expression;
 mod halt;
 mod heads;
+mod laws;
 mod loads;
 mod maps;
 mod marks;
