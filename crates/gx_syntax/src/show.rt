@@ -1,0 +1,5 @@
+//! Trees to text.
+
+mod expression;
+mod laws;
+mod quotation;
