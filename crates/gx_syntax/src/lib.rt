@@ -1,30 +1,11 @@
-//! The script language: its tokens, its grammar, and the canonical spelling of a script.
-//!
-//! A script is a list of statements, each a variant of `Stmt` with the parts that its spelling has.
-//! The grammar of `specs/Grammar.antt` says which tokens spell which script. The crate stands on
-//! `gx_rows` and on the kit's `sqlite_items`, by which a tree may hold trees; the checks of types,
-//! the plan and the printer of scripts read the tree.
+//! The script language: texts to scripts, and scripts to their canonical spelling.
 #![tactic(auto)]
 
-mod escapes;
-mod lexeme;
-mod parser;
-mod quote;
-mod reader;
-mod runs;
-mod show;
-mod symbol;
-mod syntax_kind;
-mod token;
-mod tokens;
-mod tree;
+mod syntax_stop;
 
-pub use syntax_kind::{SyntaxKind, SyntaxStop};
-pub use token::{Token, TokenKind};
-pub use tokens::Tokens;
-pub use tree::constant::{Const, NamedConst};
-pub use tree::expr::{Binary, Expr, Unary};
-pub use tree::parts::{Column, Merge, Send, Set};
-pub use tree::script::Script;
-pub use tree::stmt::Stmt;
-pub use tree::words::{ActiveWord, CutWord, MergeWord, NeighbourWord, SideWord};
+pub use gx_grammar::{
+    ActiveWord, Binary, Column, Const, CutWord, Expr, Merge, MergeWord, NamedConst, NeighbourWord, Script, Send, Set,
+    SideWord, Stmt, Unary,
+};
+pub use gx_tokens::{SyntaxKind, Token, TokenKind, Tokens};
+pub use syntax_stop::SyntaxStop;

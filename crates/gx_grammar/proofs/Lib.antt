@@ -1,0 +1,9 @@
+pub mod Complete
+pub mod Ending
+pub mod Expressions
+pub mod Levels
+pub mod Local
+pub mod Positions
+pub mod Readers
+pub mod Sound
+pub mod Turns

@@ -1,0 +1,422 @@
+-- Readers that are put together from readers that read just the words of a language.
+use Rattle.std.proofs.Common.{◌≡◌, ℕ, zero, suc, ◌<◌, ◌≤◌, ◌+◌, ◌-◌, Bool, true, false, if◌then◌else◌, ◌||◌, ◌⊎◌, inl, inr, Option, Some, None, Result, Ok, Err, List, [], ◌∷◌, ◌++◌, length, take, drop, refl, sym, ◌∙◌, ap, subst, append_assoc, arith, length-append}
+use Rattle.std.proofs.Math.Seq.{take-append_seam, drop-append_seam}
+use Rattle.std.proofs.lemmas.List.{append-nil}
+use Rattle.gx_grammar.specs.Readers.{◌>>=◌, made, one, one_of, seq, mapped, choose, many, repeated, One, Made, Then, Either, Many, none, more, Begun, Read, Halted, Tells, leaves, Ends, Keeps, Takes, Faithful}
+
+-- the value of an answer
+pub ok_same : {X Y : Type 0} {a b : X} → ◌≡◌ {A = Result X Y} (Ok a) (Ok b) → a ≡ b
+ok_same e = cc
+
+pub err_same : {X Y : Type 0} {a b : Y} → ◌≡◌ {A = Result X Y} (Err a) (Err b) → a ≡ b
+err_same e = cc
+
+-- an answer that leaves these tokens tells what was before them
+pub record Left {T : Type 0} (ts rest : List T) : Type 0 where
+  pub front : List T
+  pub whole : ts ≡ front ++ rest
+
+pub left_of : {T A : Type 0} (L : List T → A → Type 0) (ts rest : List T) (o : Option A) → Tells L ts (leaves o rest) → Left ts rest
+left_of L ts rest (Some x) h = record { front = h.front; whole = h.whole }
+left_of L ts rest None h = record { front = h.front; whole = h.whole }
+
+-- the same tokens behind two fronts
+pub cancel : {T : Type 0} (w v : List T) (ts : List T) → w ++ ts ≡ v ++ ts → w ≡ v
+cancel [] [] ts e = refl
+cancel [] (b ∷ v) ts e = absurd (omega (arith, simp length-append at (ap length e)))
+cancel (a ∷ w) [] ts e = absurd (omega (arith, simp length-append at (ap length e)))
+cancel (a ∷ w) (b ∷ v) ts e =
+    let heads : a ≡ b = cc in
+    let tails : w ++ ts ≡ v ++ ts = cc in
+    rw (heads, cancel w v ts tails) refl
+
+-- tokens and as many behind others
+pub empty_front : {T : Type 0} (w : List T) (ts : List T) → w ++ ts ≡ ts → w ≡ []
+empty_front w ts e = cancel w [] ts e
+
+-- nothing
+pub made_local : {T A : Type 0} (y : A) (w : List T) (t : T) (r s : List T) (o : Option A) → made y (w ++ t ∷ r) ≡ leaves o (t ∷ r) → made y (w ++ t ∷ s) ≡ leaves o (t ∷ s)
+made_local y w t r s None e = cc
+made_local {T = T} {A = A} y w t r s (Some x) e =
+    let both : (y, w ++ t ∷ r) ≡ (x, t ∷ r) = ok_same e in
+    let value : y ≡ x = ap (λ (p : A × List T). p.0) both in
+    let empty : w ≡ [] = empty_front w (t ∷ r) (ap (λ (p : A × List T). p.1) both) in
+    rw (value, empty) refl
+
+pub made_faithful : {T A : Type 0} (y : A) → Faithful {T = T} (Made y) (λ t. false) (made y)
+made_faithful y = record {
+  keeps = record {
+    some = record { rest = []; value = y; spells = record { empty = refl; given = refl } };
+    tells = λ ts. record { front = []; whole = refl; spells = record { empty = refl; given = refl } };
+    local = made_local y;
+  };
+  takes = λ w rest x h e. rw (h.empty, h.given) refl;
+}
+
+-- one token
+one_tells : {T A : Type 0} (test : T → Option A) → Begun (One test) [] → (t : T) (ts : List T) (o : Option A) → test t ≡ o → Tells (One test) (t ∷ ts) (one_of o t ts)
+one_tells test b t ts (Some x) e = record { front = t ∷ []; whole = refl; spells = record { token = t; whole = refl; passes = e } }
+one_tells test b t ts None e = record { front = []; whole = refl; begun = b }
+
+one_of_local : {T A : Type 0} (o' : Option A) (w : List T) (u t : T) (r s : List T) (o : Option A) → one_of o' u (w ++ t ∷ r) ≡ leaves o (t ∷ r) → one_of o' u (w ++ t ∷ s) ≡ leaves o (t ∷ s)
+one_of_local (Some x) w u t r s o e = made_local x w t r s o e
+one_of_local None w u t r s (Some x) e = cc
+one_of_local None w u t r s None e =
+    let same : u ∷ (w ++ t ∷ r) ≡ t ∷ r = err_same e in
+    absurd (omega (arith, simp length-append at (ap length same)))
+
+-- a list is no tail of itself
+no_tail : {T : Type 0} (t : T) (r : List T) → r ≡ t ∷ r → ⊥
+no_tail t r e = absurd (omega (arith, ap length e))
+
+one_head_local : {T A : Type 0} (o' : Option A) (t : T) (r s : List T) (o : Option A) → one_of o' t r ≡ leaves o (t ∷ r) → one_of o' t s ≡ leaves o (t ∷ s)
+one_head_local {T = T} {A = A} (Some x) t r s (Some y) e = absurd (no_tail t r (ap (λ (p : A × List T). p.1) (ok_same e)))
+one_head_local (Some x) t r s None e = cc
+one_head_local None t r s (Some y) e = cc
+one_head_local None t r s None e = refl
+
+one_local : {T A : Type 0} (test : T → Option A) (w : List T) (t : T) (r s : List T) (o : Option A) → one test (w ++ t ∷ r) ≡ leaves o (t ∷ r) → one test (w ++ t ∷ s) ≡ leaves o (t ∷ s)
+one_local test [] t r s o e = one_head_local (test t) t r s o e
+one_local test (u ∷ w) t r s o e = one_of_local (test u) w u t r s o e
+
+pub one_faithful : {T A : Type 0} (test : T → Option A) (t : T) (x : A) → test t ≡ Some x → Faithful (One test) (λ t. false) (one test)
+one_faithful test t x e = record {
+  keeps = record {
+    some = begun;
+    tells = tells;
+    local = one_local test;
+  };
+  takes = λ w rest y h _. rw (h.whole, h.passes) refl;
+}
+  where
+    begun : Begun (One test) []
+    begun = record { rest = t ∷ []; value = x; spells = record { token = t; whole = refl; passes = e } }
+
+    tells : (ts : _) → Tells (One test) ts (one test ts)
+    tells [] = record { front = []; whole = refl; begun = begun }
+    tells (u ∷ us) = one_tells test begun u us (test u) refl
+
+-- the same words
+pub same_begun : {T A : Type 0} (L M : List T → A → Type 0) → ((w : List T) (x : A) → L w x → M w x) → (front : List T) → Begun L front → Begun M front
+same_begun L M f front b = record { rest = b.rest; value = b.value; spells = f _ _ b.spells }
+
+pub same_tells : {T A : Type 0} (L M : List T → A → Type 0) → ((w : List T) (x : A) → L w x → M w x) → (ts : List T) (r : Result (A × List T) (List T)) → Tells L ts r → Tells M ts r
+same_tells L M f ts (Ok r) h = record { front = h.front; whole = h.whole; spells = f _ _ h.spells }
+same_tells L M f ts (Err rest) h = record { front = h.front; whole = h.whole; begun = same_begun L M f _ h.begun }
+
+pub same_keeps : {T A : Type 0} (L M : List T → A → Type 0) (p : List T → Result (A × List T) (List T)) → ((w : List T) (x : A) → L w x → M w x) → Keeps L p → Keeps M p
+same_keeps L M p f P = record {
+  some = same_begun L M f [] P.some;
+  tells = λ ts. same_tells L M f ts (p ts) (P.tells ts);
+  local = P.local;
+}
+
+pub same_faithful : {T A : Type 0} (L M : List T → A → Type 0) (go : T → Bool) (p : List T → Result (A × List T) (List T)) → ((w : List T) (x : A) → L w x → M w x) → ((w : List T) (x : A) → M w x → L w x) → Faithful L go p → Faithful M go p
+same_faithful L M go p f g P = record {
+  keeps = same_keeps L M p f P.keeps;
+  takes = λ w rest x h e. P.takes w rest x (g w x h) e;
+}
+
+-- one reader behind another
+module _ {T A B : Type 0} (L : List T → A → Type 0) (M : A → List T → B → Type 0) (p : List T → Result (A × List T) (List T)) (f : A → List T → Result (B × List T) (List T)) where
+  then_begun : ((x : A) → Keeps (M x) (f x)) → (front : List T) → Begun L front → Begun (Then L M) front
+  then_begun F front b =
+      let more_of = (F b.value).some in
+      record {
+        rest = b.rest ++ more_of.rest;
+        value = more_of.value;
+        spells = record { first = front ++ b.rest; second = more_of.rest; value = b.value; whole = sym (append_assoc front b.rest more_of.rest); head = b.spells; tail = more_of.spells };
+      }
+
+  then_second : (ts front mid : List T) (x : A) → ts ≡ front ++ mid → L front x → (r : Result (B × List T) (List T)) → Tells (M x) mid r → Tells (Then L M) ts r
+  then_second ts front mid x e h (Ok r) g = record {
+    front = front ++ g.front;
+    whole = rw (e, g.whole) (simp append_assoc);
+    spells = record { first = front; second = g.front; value = x; whole = refl; head = h; tail = g.spells };
+  }
+  then_second ts front mid x e h (Err rest) g = record {
+    front = front ++ g.front;
+    whole = rw (e, g.whole) (simp append_assoc);
+    begun = record {
+      rest = g.begun.rest;
+      value = g.begun.value;
+      spells = record { first = front; second = g.front ++ g.begun.rest; value = x; whole = append_assoc front g.front g.begun.rest; head = h; tail = g.begun.spells };
+    };
+  }
+
+  then_tells : ((x : A) → Keeps (M x) (f x)) → (ts : List T) (r : Result (A × List T) (List T)) → Tells L ts r → Tells (Then L M) ts (r >>= f)
+  then_tells F ts (Ok r) h = then_second ts h.front r.1 r.0 h.whole h.spells (f r.0 r.1) ((F r.0).tells r.1)
+  then_tells F ts (Err rest) h = record { front = h.front; whole = h.whole; begun = then_begun F h.front h.begun }
+
+  -- what p read, up to a later token
+  moved : Keeps L p → (w v : List T) (t : T) (r s : List T) (x : A) → p (w ++ (v ++ t ∷ r)) ≡ Ok (x, v ++ t ∷ r) → p (w ++ (v ++ t ∷ s)) ≡ Ok (x, v ++ t ∷ s)
+  moved P w [] t r s x e = P.local w t r s (Some x) e
+  moved P w (u ∷ v) t r s x e = P.local w u (v ++ t ∷ r) (v ++ t ∷ s) (Some x) e
+
+  then_again : Keeps L p → (u v mid : List T) (t : T) (r s : List T) (o : Option B) (x : A) → Keeps (M x) (f x)
+      → mid ≡ v ++ t ∷ r → p (u ++ mid) ≡ Ok (x, mid) → f x mid ≡ leaves o (t ∷ r) → seq p f ((u ++ v) ++ t ∷ s) ≡ leaves o (t ∷ s)
+  then_again P u v mid t r s o x F e h g =
+      let read : p (u ++ (v ++ t ∷ r)) ≡ Ok (x, v ++ t ∷ r) = rw (← e) h in
+      let again : p (u ++ (v ++ t ∷ s)) ≡ Ok (x, v ++ t ∷ s) = moved P u v t r s x read in
+      let behind : f x (v ++ t ∷ s) ≡ leaves o (t ∷ s) = F.local v t r s o (rw (← e) g) in
+      rw (append_assoc, again) behind
+
+  then_local : Keeps L p → ((x : A) → Keeps (M x) (f x)) → (w : List T) (t : T) (r s : List T) (o : Option B)
+      → (q : Result (A × List T) (List T)) → p (w ++ t ∷ r) ≡ q → Tells L (w ++ t ∷ r) q → q >>= f ≡ leaves o (t ∷ r) → seq p f (w ++ t ∷ s) ≡ leaves o (t ∷ s)
+  then_local P F w t r s (Some y) (Err rest) e h g = cc
+  then_local P F w t r s None (Err rest) e h g =
+      let same : rest ≡ t ∷ r = err_same g in
+      let here : p (w ++ t ∷ r) ≡ Err (t ∷ r) = e ∙ ap (λ (a : List T). Err a) same in
+      let there : p (w ++ t ∷ s) ≡ Err (t ∷ s) = P.local w t r s None here in
+      rw there refl
+  then_local P F w t r s o (Ok q) e h g =
+      let mid = left_of (M q.0) q.1 (t ∷ r) o (subst (λ a. Tells (M q.0) q.1 a) g ((F q.0).tells q.1)) in
+      let whole : w ++ t ∷ r ≡ (h.front ++ mid.front) ++ t ∷ r = h.whole ∙ ap (λ v. h.front ++ v) mid.whole ∙ sym (append_assoc h.front mid.front (t ∷ r)) in
+      let fronts : w ≡ h.front ++ mid.front = cancel w (h.front ++ mid.front) (t ∷ r) whole in
+      subst (λ a. seq p f (a ++ t ∷ s) ≡ leaves o (t ∷ s)) (sym fronts) (then_again P h.front mid.front q.1 t r s o q.0 (F q.0) mid.whole (ap p (sym h.whole) ∙ e) g)
+
+  pub seq_keeps : Keeps L p → ((x : A) → Keeps (M x) (f x)) → Keeps (Then L M) (seq p f)
+  seq_keeps P F = record {
+    some = then_begun F [] P.some;
+    tells = λ ts. then_tells F ts (p ts) (P.tells ts);
+    local = λ w t r s o e. then_local P F w t r s o (p (w ++ t ∷ r)) refl (P.tells (w ++ t ∷ r)) e;
+  }
+
+  pub seq_faithful : (g h : T → Bool) → Faithful L g p → ((x : A) → Faithful (M x) h (f x)) → ((x : A) (v rest : List T) (y : B) → M x v y → Ends h rest → Ends g (v ++ rest)) → Faithful (Then L M) h (seq p f)
+  seq_faithful g h P F apart = record {
+    keeps = seq_keeps P.keeps (λ x. (F x).keeps);
+    takes = λ w rest y d e.
+        let first = P.takes d.first (d.second ++ rest) d.value d.head (apart d.value d.second rest y d.tail e) in
+        let second = (F d.value).takes d.second rest y d.tail e in
+        rw (d.whole, append_assoc, first) second;
+  }
+
+-- the first token of a word passes a test
+pub record Starts {T : Type 0} (test : T → Bool) (w : List T) : Type 0 where
+  pub head : T
+  pub tail : List T
+  pub whole : w ≡ head ∷ tail
+  pub passes : test head ≡ true
+
+pub or_left : (a b : Bool) → (a || b) ≡ false → a ≡ false
+or_left true b e = e
+or_left false b e = refl
+
+pub or_right : (a b : Bool) → (a || b) ≡ false → b ≡ false
+or_right true b e = absurd (cc)
+or_right false b e = e
+
+pub ends_left : {T : Type 0} (g h : T → Bool) (rest : List T) → Ends (λ t. g t || h t) rest → Ends g rest
+ends_left g h [] e = tt
+ends_left g h (t ∷ ts) e = or_left (g t) (h t) e
+
+pub ends_right : {T : Type 0} (g h : T → Bool) (rest : List T) → Ends (λ t. g t || h t) rest → Ends h rest
+ends_right g h [] e = tt
+ends_right g h (t ∷ ts) e = or_right (g t) (h t) e
+
+-- one of two readers, by the next token
+module _ {T A : Type 0} (L M : List T → A → Type 0) (test : T → Bool) (p q : List T → Result (A × List T) (List T)) where
+  choose_tells : Keeps L p → Keeps M q → (b : Bool) (ts : List T) → Tells (Either L M) ts (if b then p ts else q ts)
+  choose_tells P Q true ts = same_tells L (Either L M) (λ w x d. inl d) ts (p ts) (P.tells ts)
+  choose_tells P Q false ts = same_tells M (Either L M) (λ w x d. inr d) ts (q ts) (Q.tells ts)
+
+  choose_both : Keeps L p → Keeps M q → (b : Bool) (w : List T) (t : T) (r s : List T) (o : Option A)
+      → (if b then p (w ++ t ∷ r) else q (w ++ t ∷ r)) ≡ leaves o (t ∷ r) → (if b then p (w ++ t ∷ s) else q (w ++ t ∷ s)) ≡ leaves o (t ∷ s)
+  choose_both P Q true = P.local
+  choose_both P Q false = Q.local
+
+  choose_local : Keeps L p → Keeps M q → (w : List T) (t : T) (r s : List T) (o : Option A) → choose test p q (w ++ t ∷ r) ≡ leaves o (t ∷ r) → choose test p q (w ++ t ∷ s) ≡ leaves o (t ∷ s)
+  choose_local P Q [] t = choose_both P Q (test t) [] t
+  choose_local P Q (u ∷ w) t = choose_both P Q (test u) (u ∷ w) t
+
+  pub choose_keeps : Keeps L p → Keeps M q → Keeps (Either L M) (choose test p q)
+  choose_keeps P Q = record {
+    some = same_begun M (Either L M) (λ w x d. inr d) [] Q.some;
+    tells = tells;
+    local = choose_local P Q;
+  }
+    where
+      tells : (ts : List T) → Tells (Either L M) ts (choose test p q ts)
+      tells [] = same_tells M (Either L M) (λ w x d. inr d) [] (q []) (Q.tells [])
+      tells (t ∷ ts) = choose_tells P Q (test t) (t ∷ ts)
+
+  pub chooses_first : (w : List T) → Starts test w → (rest : List T) → choose test p q (w ++ rest) ≡ p (w ++ rest)
+  chooses_first w s rest = rw (s.whole, s.passes) refl
+
+  pub chooses_second : (ts : List T) → Ends test ts → choose test p q ts ≡ q ts
+  chooses_second [] e = refl
+  chooses_second (t ∷ ts) e = rw e refl
+
+  pub choose_faithful : (go g h : T → Bool) → Faithful L g p → Faithful M h q → ((rest : List T) → Ends go rest → Ends g rest) → ((rest : List T) → Ends go rest → Ends h rest) → ((w : List T) (x : A) → L w x → Starts test w)
+      → ((w : List T) (x : A) → M w x → (rest : List T) → Ends go rest → Ends test (w ++ rest)) → Faithful (Either L M) go (choose test p q)
+  choose_faithful go g h P Q to_g to_h heads apart = record { keeps = choose_keeps P.keeps Q.keeps; takes = takes }
+    where
+      takes : Takes (Either L M) go (choose test p q)
+      takes w rest x (inl d) e = chooses_first w (heads w x d) rest ∙ P.takes w rest x d (to_g rest e)
+      takes w rest x (inr d) e = chooses_second (w ++ rest) (apart w x d rest e) ∙ Q.takes w rest x d (to_h rest e)
+
+-- a reader again and again
+module _ {T A : Type 0} (L : List T → A → Type 0) (starts : T → Bool) (p : List T → Result (A × List T) (List T)) where
+  abbrev Round : List T → List A → Type 0
+  Round = Either (Then L (λ x. Then (Many L) (λ xs. Made (x ∷ xs)))) (Made [])
+
+  round_is : (w : List T) (xs : List A) → Round w xs → Many L w xs
+  round_is w xs (inl d) =
+      let words : Many L (d.first ++ d.tail.first) (d.value ∷ d.tail.value) = more d.head d.tail.head in
+      rw (d.whole, d.tail.whole, d.tail.tail.empty, append-nil, d.tail.tail.given) words
+  round_is w xs (inr d) = rw (d.empty, d.given) none
+
+  stuck_local : (w : List T) (t : T) (r s : List T) (o : Option (List A)) → ◌≡◌ {A = Result (List A × List T) (List T)} (Err (w ++ t ∷ r)) (leaves o (t ∷ r)) → ◌≡◌ {A = Result (List A × List T) (List T)} (Err (w ++ t ∷ s)) (leaves o (t ∷ s))
+  stuck_local w t r s (Some x) e = cc
+  stuck_local w t r s None e = let empty : w ≡ [] = empty_front w (t ∷ r) (err_same e) in rw empty refl
+
+  none_begun : Begun (Many L) []
+  none_begun = record { rest = []; value = []; spells = none }
+
+  pub many_keeps : Keeps L p → (n : ℕ) → Keeps (Many L) (many starts p n)
+  unfolding many
+  many_keeps P zero = record {
+    some = none_begun;
+    tells = λ ts. record { front = []; whole = refl; begun = none_begun };
+    local = stuck_local;
+  }
+  many_keeps P (suc n) = same_keeps Round (Many L) (many starts p (suc n)) round_is
+      (choose_keeps (Then L (λ x. Then (Many L) (λ xs. Made (x ∷ xs)))) (Made []) starts (seq p (λ x. mapped (λ xs. x ∷ xs) (many starts p n))) (made [])
+      (seq_keeps L (λ x. Then (Many L) (λ xs. Made (x ∷ xs))) p (λ x. mapped (λ xs. x ∷ xs) (many starts p n)) P
+      (λ x. seq_keeps (Many L) (λ xs. Made (x ∷ xs)) (many starts p n) (λ xs. made (x ∷ xs)) (many_keeps P n) (λ xs. (made_faithful (x ∷ xs)).keeps)))
+      (made_faithful []).keeps)
+
+  many_none : (n : ℕ) (ts : List T) → Ends starts ts → many starts p (suc n) ts ≡ Ok ([], ts)
+  unfolding many
+  many_none n [] e = refl
+  many_none n (t ∷ ts) e = rw e refl
+
+  many_some : (n : ℕ) (t : T) (ts : List T) → starts t ≡ true → many starts p (suc n) (t ∷ ts) ≡ p (t ∷ ts) >>= λ x. mapped (λ xs. x ∷ xs) (many starts p n)
+  unfolding many
+  many_some n t ts e = rw e refl
+
+  enough_behind : (n m : ℕ) (ts : List T) (q : Result (A × List T) (List T)) → Tells L (ts) q → ((w : List T) (x : A) → L w x → Starts starts w) → length ts ≤ n → length ts ≤ m
+      → ((mid : List T) → length mid < n → length mid < m → many starts p n mid ≡ many starts p m mid)
+      → (q >>= λ x. mapped (λ xs. x ∷ xs) (many starts p n)) ≡ (q >>= λ x. mapped (λ xs. x ∷ xs) (many starts p m))
+  enough_behind n m ts (Err rest) h heads a b again = refl
+  enough_behind n m ts (Ok q) h heads a b again =
+      let word = heads h.front q.0 h.spells in
+      let lengths : length ts ≡ length (word.head ∷ word.tail) + length q.1 = ap length h.whole ∙ length-append h.front q.1 ∙ ap (λ w. length w + length q.1) word.whole in
+      let same : many starts p n q.1 ≡ many starts p m q.1 = again q.1 (omega (arith, lengths)) (omega (arith, lengths)) in
+      rw same refl
+
+  pub many_enough : Keeps L p → ((w : List T) (x : A) → L w x → Starts starts w) → (n m : ℕ) (ts : List T) → length ts < n → length ts < m → many starts p n ts ≡ many starts p m ts
+  many_enough P heads zero m ts a b = absurd (omega arith)
+  many_enough P heads (suc n) zero ts a b = absurd (omega arith)
+  many_enough P heads (suc n) (suc m) [] a b = many_none n [] tt ∙ sym (many_none m [] tt)
+  many_enough P heads (suc n) (suc m) (t ∷ ts) a b = go (λ mid c d. many_enough P heads n m mid c d) (starts t) refl
+    where
+      go : ((mid : List T) → length mid < n → length mid < m → many starts p n mid ≡ many starts p m mid) → (c : Bool) → starts t ≡ c → many starts p (suc n) (t ∷ ts) ≡ many starts p (suc m) (t ∷ ts)
+      go again false e = many_none n (t ∷ ts) e ∙ sym (many_none m (t ∷ ts) e)
+      go again true e = many_some n t ts e
+          ∙ enough_behind n m (t ∷ ts) (p (t ∷ ts)) (P.tells (t ∷ ts)) heads (omega arith) (omega arith) again
+          ∙ sym (many_some m t ts e)
+
+  many_on : (q : Result (A × List T) (List T)) (n : ℕ) (xs : List A) (rest : List T) → ((mid : List T) (ys : List A) → many starts p n mid ≡ Ok (ys, rest) → rest ≡ [])
+      → (q >>= λ x. mapped (λ ys. x ∷ ys) (many starts p n)) ≡ Ok (xs, rest) → rest ≡ []
+  many_on (Err left) n xs rest again e = absurd (let lie : ◌≡◌ {A = Result (List A × List T) (List T)} (Err left) (Ok (xs, rest)) = e in cc)
+  many_on (Ok q) n xs rest again e = go (many starts p n q.1) refl e
+    where
+      go : (r : Result (List A × List T) (List T)) → many starts p n q.1 ≡ r → (r >>= λ ys left. Ok (q.0 ∷ ys, left)) ≡ Ok (xs, rest) → rest ≡ []
+      go (Err left) h i = absurd (let lie : ◌≡◌ {A = Result (List A × List T) (List T)} (Err left) (Ok (xs, rest)) = i in cc)
+      go (Ok r) h i =
+          let left : r.1 ≡ rest = ap (λ (v : List A × List T). v.1) (ok_same i) in
+          again q.1 r.0 (h ∙ ap (λ l. Ok (r.0, l)) left)
+
+  -- where each token begins a word, nothing is left
+  pub many_whole : ((t : T) → starts t ≡ true) → (n : ℕ) (ts : List T) (xs : List A) (rest : List T) → many starts p n ts ≡ Ok (xs, rest) → rest ≡ []
+  unfolding many
+  many_whole all zero ts xs rest e = absurd (let lie : ◌≡◌ {A = Result (List A × List T) (List T)} (Err ts) (Ok (xs, rest)) = e in cc)
+  many_whole all (suc n) [] xs rest e = sym (ap (λ (v : List A × List T). v.1) (ok_same (sym (many_none n [] tt) ∙ e)))
+  many_whole all (suc n) (t ∷ ts) xs rest e = many_on (p (t ∷ ts)) n xs rest (λ mid ys h. many_whole all n mid ys rest h) (sym (many_some n t ts (all t)) ∙ e)
+
+  -- any fuel above the length serves
+  pub repeated_by : Keeps L p → ((w : List T) (x : A) → L w x → Starts starts w) → (n : ℕ) (ts : List T) → length ts < n → repeated starts p ts ≡ many starts p n ts
+  unfolding repeated
+  repeated_by P heads n ts a = many_enough P heads (suc (length ts)) n ts (omega arith) a
+
+  pub repeated_keeps : Keeps L p → ((w : List T) (x : A) → L w x → Starts starts w) → Keeps (Many L) (repeated starts p)
+  unfolding repeated
+  repeated_keeps P heads = record { some = none_begun; tells = tells; local = local }
+    where
+      tells : (ts : List T) → Tells (Many L) ts (repeated starts p ts)
+      tells ts = (many_keeps P (suc (length ts))).tells ts
+
+      local : (w : List T) (t : T) (r s : List T) (o : Option (List A)) → repeated starts p (w ++ t ∷ r) ≡ leaves o (t ∷ r) → repeated starts p (w ++ t ∷ s) ≡ leaves o (t ∷ s)
+      local w t r s o e =
+          let n : ℕ = suc (length (w ++ t ∷ r) + length (w ++ t ∷ s)) in
+          let here : many starts p n (w ++ t ∷ r) ≡ leaves o (t ∷ r) = sym (repeated_by P heads n (w ++ t ∷ r) (omega arith)) ∙ e in
+          repeated_by P heads n (w ++ t ∷ s) (omega arith) ∙ (many_keeps P n).local w t r s o here
+
+  -- a round that begins with a word
+  many_more : (n : ℕ) (w mid : List T) (x : A) → Starts starts w → p (w ++ mid) ≡ Ok (x, mid) → many starts p (suc n) (w ++ mid) ≡ many starts p n mid >>= λ xs rest. Ok (x ∷ xs, rest)
+  many_more n w mid x s e =
+      let begins : w ++ mid ≡ s.head ∷ (s.tail ++ mid) = ap (λ v. v ++ mid) s.whole in
+      let read : p (s.head ∷ (s.tail ++ mid)) ≡ Ok (x, mid) = ap p (sym begins) ∙ e in
+      ap (λ v. many starts p (suc n) v) begins ∙ many_some n s.head (s.tail ++ mid) s.passes ∙ ap (λ r. r >>= λ y. mapped (λ xs. y ∷ xs) (many starts p n)) read
+
+  ends_many : (g : T → Bool) → ((t : T) → starts t ≡ true → g t ≡ false) → ((w : List T) (x : A) → L w x → Starts starts w) → {ws : List T} {xs : List A} → Many L ws xs → (rest : List T) → Ends (λ t. g t || starts t) rest → Ends g (ws ++ rest)
+  ends_many g apart heads none rest e = ends_left g starts rest e
+  ends_many g apart heads (more {w} {ws} {x} d ds) rest e =
+      let s = heads w x d in
+      rw s.whole (apart s.head s.passes)
+
+  pub many_takes : (g : T → Bool) → Faithful L g p → ((w : List T) (x : A) → L w x → Starts starts w) → ((t : T) → starts t ≡ true → g t ≡ false)
+      → (n : ℕ) {ws : List T} {xs : List A} → Many L ws xs → (rest : List T) → length (ws ++ rest) < n → Ends (λ t. g t || starts t) rest → many starts p n (ws ++ rest) ≡ Ok (xs, rest)
+  many_takes g P heads apart zero d rest a e = absurd (omega arith)
+  many_takes g P heads apart (suc n) none rest a e = many_none n rest (ends_right g starts rest e)
+  many_takes g P heads apart (suc n) (more {w} {ws} {x} {xs} d ds) rest a e =
+      let s = heads w x d in
+      let lengths : length (w ++ ws ++ rest) ≡ length (s.head ∷ s.tail) + length (ws ++ rest) = ap length (append_assoc w ws rest) ∙ length-append w (ws ++ rest) ∙ ap (λ v. length v + length (ws ++ rest)) s.whole in
+      let read : p (w ++ (ws ++ rest)) ≡ Ok (x, ws ++ rest) = P.takes w (ws ++ rest) x d (ends_many g apart heads ds rest e) in
+      let behind : many starts p n (ws ++ rest) ≡ Ok (xs, rest) = many_takes g P heads apart n ds rest (omega (arith, lengths)) e in
+      rw append_assoc (many_more n w (ws ++ rest) x s read ∙ ap (λ r. r >>= λ ys left. Ok (x ∷ ys, left)) behind)
+
+  pub repeated_faithful : (g : T → Bool) → Faithful L g p → ((w : List T) (x : A) → L w x → Starts starts w) → ((t : T) → starts t ≡ true → g t ≡ false)
+      → Faithful (Many L) (λ t. g t || starts t) (repeated starts p)
+  unfolding repeated
+  repeated_faithful g P heads apart = record { keeps = repeated_keeps P.keeps heads; takes = takes }
+    where
+      takes : Takes (Many L) (λ t. g t || starts t) (repeated starts p)
+      takes w rest xs d e = many_takes g P heads apart (suc (length (w ++ rest))) d rest (omega arith) e
+
+  -- one turn of a loop over words
+  pub repeated_ends : (ts : List T) → Ends starts ts → repeated starts p ts ≡ Ok ([], ts)
+  unfolding repeated
+  repeated_ends ts e = many_none (length ts) ts e
+
+  pub repeated_stops : (t : T) (ts left : List T) → starts t ≡ true → p (t ∷ ts) ≡ Err left → repeated starts p (t ∷ ts) ≡ Err left
+  unfolding repeated
+  repeated_stops t ts left e h = many_some (length (t ∷ ts)) t ts e ∙ ap (λ r. r >>= λ y. mapped (λ xs. y ∷ xs) (many starts p (length (t ∷ ts)))) h
+
+  pub repeated_goes : Keeps L p → ((w : List T) (x : A) → L w x → Starts starts w) → (t : T) (ts mid : List T) (x : A) → starts t ≡ true → p (t ∷ ts) ≡ Ok (x, mid)
+      → repeated starts p (t ∷ ts) ≡ repeated starts p mid >>= λ xs rest. Ok (x ∷ xs, rest)
+  unfolding repeated
+  repeated_goes P heads t ts mid x e h =
+      let told : Read L (t ∷ ts) x mid = subst (λ r. Tells L (t ∷ ts) r) h (P.tells (t ∷ ts)) in
+      let s = heads told.front x told.spells in
+      let lengths : length (t ∷ ts) ≡ length (s.head ∷ s.tail) + length mid = ap length told.whole ∙ length-append told.front mid ∙ ap (λ v. length v + length mid) s.whole in
+      let behind : repeated starts p mid ≡ many starts p (length (t ∷ ts)) mid = repeated_by P heads (length (t ∷ ts)) mid (omega (arith, lengths)) in
+      goes behind
+    where
+      goes : repeated starts p mid ≡ many starts p (length (t ∷ ts)) mid → repeated starts p (t ∷ ts) ≡ repeated starts p mid >>= λ xs rest. Ok (x ∷ xs, rest)
+      goes behind = many_some (length (t ∷ ts)) t ts e ∙ ap (λ r. r >>= λ y. mapped (λ xs. y ∷ xs) (many starts p (length (t ∷ ts)))) h ∙ ap (λ r. r >>= λ xs rest. Ok (x ∷ xs, rest)) (sym behind)
+
+-- what is left, by how many tokens stand before it
+pub left_within : {T : Type 0} (ts front rest : List T) → ts ≡ front ++ rest → length rest ≤ length ts
+left_within ts front rest e = omega (arith, length-append front rest, ap length e)
+
+pub left_behind : {T : Type 0} (ts front rest : List T) → ts ≡ front ++ rest → drop (length ts - length rest) ts ≡ rest
+left_behind ts front rest e =
+    let count : length ts - length rest ≡ length front = omega (arith, length-append front rest, ap length e) in
+    rw count (ap (drop (length front)) e ∙ drop-append_seam front rest)
+
+pub left_before : {T : Type 0} (ts front rest : List T) → ts ≡ front ++ rest → take (length ts - length rest) ts ≡ front
+left_before ts front rest e =
+    let count : length ts - length rest ≡ length front = omega (arith, length-append front rest, ap length e) in
+    rw count (ap (take (length front)) e ∙ take-append_seam front rest)

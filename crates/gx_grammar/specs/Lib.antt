@@ -1,0 +1,6 @@
+pub mod Answers
+pub mod Grammar
+pub mod Halts
+pub mod Operators
+pub mod Readers
+pub mod Reading

@@ -1,0 +1,27 @@
+//! The trees of scripts, and the grammar of expressions: which tokens spell which tree, and the
+//! reader of expressions.
+//!
+//! A script is a list of statements, each a variant of `Stmt` with the parts that its spelling has.
+//! `specs/Grammar.antt` has the expressions by the levels of their operators. `specs/Readers.antt` says what it means
+//! that a reader reads just the words of a language, for readers over any tokens. The crate stands on the tokens of
+//! `gx_tokens` and on the kit's `sqlite_items`, by which a tree may hold trees.
+#![tactic(auto)]
+
+mod expression;
+mod halt;
+mod marks;
+mod operators;
+mod stack;
+mod steps;
+mod tree;
+
+pub use expression::read_expression;
+pub use halt::Halt;
+pub use marks::{is_close, is_comma, is_dot, is_minus, is_open};
+pub use operators::{inner, left, level, outer, right};
+pub use tree::constant::{Const, NamedConst};
+pub use tree::expr::{Binary, Expr, Unary};
+pub use tree::parts::{Column, Merge, Send, Set};
+pub use tree::script::Script;
+pub use tree::stmt::Stmt;
+pub use tree::words::{ActiveWord, CutWord, MergeWord, NeighbourWord, SideWord};

@@ -1,0 +1,4 @@
+pub mod PuttingLemmas
+pub mod ShownBackLemmas
+pub mod ShownLemmas
+pub mod WrittenLemmas

@@ -1,0 +1,32 @@
+-- Each turn of the loop, and how it ends.
+use Rattle.std.proofs.Common.{◌≡◌, ◌∷◌, [], ◌++◌, ◌∙◌, ◌-◌, ◌+◌, ◌<◌, ◌≤◌, suc, sym, ap, length, arith, codes}
+use Rattle.gx_grammar.specs.Halts.{toks_of}
+use Rattle.gx_statements.specs.Marks.{is_sign, is_word, sign}
+use Rattle.gx_statements.specs.Parts.{further, a_send}
+use Rattle.gx_grammar.specs.Readers.{many, mapped, one, repeated, seq}
+use Rattle.gx_statements.specs.declared.signs.Sign.TheVariants as signs
+use Rattle.gx_grammar.proofs.Positions.{toks_length}
+use Rattle.gx_statements.proofs.Loops.{joined, loop_begins, loop_goes, loop_ends, loop_halts, loop_stops}
+use Rattle.gx_statements.proofs.cursor.Cursor.further.Goals as goal
+
+pub entries-init : goal.entries-init
+unfolding further
+entries-init g c =
+    let found : c.push.new.self ≡ c.args.first ∷ [] = c.in_ok-push.ensures.ok ∙ ap (λ v. v ++ c.args.first ∷ []) c.new-entries.ensures in
+    ap (λ v. joined v (many (is_sign signs.Comma) (seq (one (sign signs.Comma)) (λ _. g.E.Entry.reads)) (length c.args.self.now.rest.now + 1 - 0) (toks_of c.args.self.now.rest.now))) found
+    ∙ loop_begins (is_sign signs.Comma) (seq (one (sign signs.Comma)) (λ _. g.E.Entry.reads)) c.args.first (length c.args.self.now.rest.now + 1 - 0) (toks_of c.args.self.now.rest.now) (omega (arith, toks_length c.args.self.now.rest.now))
+
+pub returns-then-not-is_sign_next : goal.returns-then-not-is_sign_next
+returns-then-not-is_sign_next g c = sym c.entries.invariant ∙ loop_ends (is_sign signs.Comma) (seq (one (sign signs.Comma)) (λ _. g.E.Entry.reads)) c.entries.entries (length c.args.self.now.rest.now + 1 - c.entries.counter) (length c.args.self.now.rest.now + 1 - (c.entries.counter + 1)) (toks_of c.entries.self.rest.now) (let more : c.entries.counter < length c.args.self.now.rest.now + 1 = c.entries-test.true in omega arith) (sym c.is_sign_next.ensures ∙ c.if-not-is_sign_next.true)
+
+pub returns-in-Err : goal.returns-in-Err
+returns-in-Err g c = loop_halts (is_sign signs.Comma) (seq (one (sign signs.Comma)) (λ _. g.E.Entry.reads)) c.entries.entries (length c.args.self.now.rest.now + 1 - c.entries.counter) (length c.args.self.now.rest.now + 1 - (c.entries.counter + 1)) (toks_of c.entries.self.rest.now) (toks_of c.next_entry.new.self.rest.now) c.in-Err.halt (mapped (λ xs. c.args.first ∷ xs) (further g.E.Entry.reads) (toks_of c.args.self.now.rest.now)) (let more : c.entries.counter < length c.args.self.now.rest.now + 1 = c.entries-test.true in omega arith) (sym c.is_sign_next.ensures ∙ c.if-not-is_sign_next.false) c.entries.invariant c.in-Err.ensures
+
+pub entries-preserved : goal.entries-preserved
+entries-preserved g c =
+    ap (λ v. joined v (many (is_sign signs.Comma) (seq (one (sign signs.Comma)) (λ _. g.E.Entry.reads)) (length c.args.self.now.rest.now + 1 - (c.entries.counter + 1)) (toks_of c.next_entry.new.self.rest.now))) c.in_ok-push-in-Ok.ensures.ok
+    ∙ loop_goes (is_sign signs.Comma) (seq (one (sign signs.Comma)) (λ _. g.E.Entry.reads)) c.entries.entries (length c.args.self.now.rest.now + 1 - c.entries.counter) (length c.args.self.now.rest.now + 1 - (c.entries.counter + 1)) (toks_of c.entries.self.rest.now) (toks_of c.next_entry.new.self.rest.now) c.in-Ok.entry (let more : c.entries.counter < length c.args.self.now.rest.now + 1 = c.entries-test.true in omega arith) (sym c.is_sign_next.ensures ∙ c.if-not-is_sign_next.false) c.in-Ok.ensures
+    ∙ c.entries.invariant
+
+pub returns : goal.returns
+returns g c = sym c.entries.invariant ∙ loop_stops (is_sign signs.Comma) (seq (one (sign signs.Comma)) (λ _. g.E.Entry.reads)) c.entries.entries (length c.args.self.now.rest.now + 1 - c.entries.counter) (toks_of c.entries.self.rest.now) (let no_more : length c.args.self.now.rest.now + 1 ≤ c.entries.counter = c.entries-test.false in omega arith)

@@ -1,0 +1,30 @@
+-- Each turn of the loop, and how it ends.
+use Rattle.std.proofs.Common.{◌≡◌, ◌∷◌, [], ◌++◌, ◌∙◌, ◌-◌, ◌+◌, ◌<◌, ◌≤◌, suc, sym, ap, length, arith, true}
+use Rattle.gx_grammar.specs.Halts.{toks_of}
+use Rattle.gx_statements.specs.Forms.{script, sentence}
+use Rattle.gx_grammar.specs.Readers.{many, mapped, one, repeated, seq}
+use Rattle.gx_statements.specs.declared.signs.Sign.TheVariants as signs
+use Rattle.gx_grammar.proofs.Positions.{toks_length}
+use Rattle.gx_statements.proofs.Loops.{joined, loop_opens, loop_goes, loop_ends, loop_halts, loop_stops}
+use Rattle.gx_statements.proofs.cursor.Cursor.script.Goals as goal
+
+pub statements-init : goal.statements-init
+unfolding script
+statements-init c =
+    ap (λ v. joined v (many (λ t. true) sentence (length c.args.self.now.rest.now + 1 - 0) (toks_of c.args.self.now.rest.now))) c.new-statements.ensures
+    ∙ loop_opens (λ t. true) sentence (length c.args.self.now.rest.now + 1 - 0) (toks_of c.args.self.now.rest.now) (omega (arith, toks_length c.args.self.now.rest.now))
+
+pub returns-then-not-has_next : goal.returns-then-not-has_next
+returns-then-not-has_next c = sym c.statements.invariant ∙ loop_ends (λ t. true) sentence c.statements.statements (length c.args.self.now.rest.now + 1 - c.statements.counter) (length c.args.self.now.rest.now + 1 - (c.statements.counter + 1)) (toks_of c.statements.self.rest.now) (let more : c.statements.counter < length c.args.self.now.rest.now + 1 = c.statements-test.true in omega arith) (sym c.has_next.ensures ∙ c.if-not-has_next.true)
+
+pub returns-in-Err : goal.returns-in-Err
+returns-in-Err c = loop_halts (λ t. true) sentence c.statements.statements (length c.args.self.now.rest.now + 1 - c.statements.counter) (length c.args.self.now.rest.now + 1 - (c.statements.counter + 1)) (toks_of c.statements.self.rest.now) (toks_of c.sentence.new.self.rest.now) c.in-Err.halt (script (toks_of c.args.self.now.rest.now)) (let more : c.statements.counter < length c.args.self.now.rest.now + 1 = c.statements-test.true in omega arith) (sym c.has_next.ensures ∙ c.if-not-has_next.false) c.statements.invariant c.in-Err.ensures
+
+pub statements-preserved : goal.statements-preserved
+statements-preserved c =
+    ap (λ v. joined v (many (λ t. true) sentence (length c.args.self.now.rest.now + 1 - (c.statements.counter + 1)) (toks_of c.sentence.new.self.rest.now))) c.in_ok-push-in-Ok.ensures.ok
+    ∙ loop_goes (λ t. true) sentence c.statements.statements (length c.args.self.now.rest.now + 1 - c.statements.counter) (length c.args.self.now.rest.now + 1 - (c.statements.counter + 1)) (toks_of c.statements.self.rest.now) (toks_of c.sentence.new.self.rest.now) c.in-Ok.statement (let more : c.statements.counter < length c.args.self.now.rest.now + 1 = c.statements-test.true in omega arith) (sym c.has_next.ensures ∙ c.if-not-has_next.false) c.in-Ok.ensures
+    ∙ c.statements.invariant
+
+pub returns : goal.returns
+returns c = sym c.statements.invariant ∙ loop_stops (λ t. true) sentence c.statements.statements (length c.args.self.now.rest.now + 1 - c.statements.counter) (toks_of c.statements.self.rest.now) (let no_more : length c.args.self.now.rest.now + 1 ≤ c.statements.counter = c.statements-test.false in omega arith)

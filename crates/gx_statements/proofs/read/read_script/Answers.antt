@@ -1,0 +1,30 @@
+use Rattle.std.proofs.Common.{◌≡◌, ◌∙◌, Ok, Err, List, [], length, arith, sym, ap, subst}
+use Rattle.gx_grammar.specs.Halts.{toks_of}
+use Rattle.gx_grammar.proofs.Positions.{toks_length}
+use Rattle.gx_grammar.proofs.Readers.{ok_same}
+use Rattle.gx_grammar.specs.declared.tree.stmt.Stmt.{Stmt}
+use Rattle.gx_statements.specs.Forms.{script}
+use Rattle.gx_statements.specs.Refusals.{AreRefusedAt}
+use Rattle.gx_statements.proofs.Refusals.{both, reads_each, spells_all, is_refused, left_few, same_script}
+use Rattle.gx_statements.proofs.read.read_script.Goals as goal
+
+pub overflow_sub-result : goal.overflow_sub-result
+overflow_sub-result c =
+    let refused : script (toks_of c.args.tokens.now) ≡ Err (toks_of c.script.new.self.rest.now) = rw (c.in-Err-Refused.is, c.in-Err-Refused.field-0-is) at c.script.ensures in
+    omega (arith, left_few _ _ refused, toks_length c.args.tokens.now, toks_length c.script.new.self.rest.now)
+
+pub returns-in-Ok-clause-read : goal.returns-in-Ok-clause-read
+returns-in-Ok-clause-read c = spells_all _ c.in-Ok.statements _ c.in-Ok.ensures
+
+pub returns-in-Ok-clause-each : goal.returns-in-Ok-clause-each
+returns-in-Ok-clause-each c = λ s d. same_script _ c.in-Ok.statements s _ c.in-Ok.ensures d
+
+pub returns-in-Err-Refused-clause-read : goal.returns-in-Err-Refused-clause-read
+returns-in-Err-Refused-clause-read c =
+    let refused : script (toks_of c.args.tokens.now) ≡ Err (toks_of c.script.new.self.rest.now) = rw (c.in-Err-Refused.is, c.in-Err-Refused.field-0-is) at c.script.ensures in
+    rw (← toks_length c.args.tokens.now, ← toks_length c.script.new.self.rest.now) (is_refused _ _ refused)
+
+pub returns-in-Err-Refused-clause-each : goal.returns-in-Err-Refused-clause-each
+returns-in-Err-Refused-clause-each c = λ s d.
+    let refused : script (toks_of c.args.tokens.now) ≡ Err (toks_of c.script.new.self.rest.now) = rw (c.in-Err-Refused.is, c.in-Err-Refused.field-0-is) at c.script.ensures in
+    both _ s [] _ (reads_each _ s d) refused

@@ -1,0 +1,4 @@
+pub mod Forms
+pub mod Marks
+pub mod Parts
+pub mod Refusals

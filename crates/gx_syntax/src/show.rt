@@ -1,5 +1,0 @@
-//! Trees to text.
-
-mod expression;
-mod laws;
-mod quotation;

@@ -1,0 +1,415 @@
+-- The tokens of a spaced text are those that it was made of.
+use Rattle.std.proofs.Common.{◌≡◌, ℕ, suc, zero, ◌<◌, ◌≤◌, ◌+◌, ◌-◌, ◌^◌, Bool, true, false, if◌then◌else◌, ◌||◌, Some, None, Ok, List, [], ◌∷◌, ◌++◌, length, drop, take, map, refl, sym, ◌∙◌, ap, ◌⊎◌, ◌≢◌, inl, inr, subst, append_assoc, length-append, arith, cond, nat_le, decimal}
+use Rattle.std.specs.Prelude.{◌==◌, ◌&&◌}
+use Rattle.std.specs.Char.{is_ascii_alphabetic, is_ascii_digit}
+use Rattle.std.specs.List.{prefix_len, take_while, list_all}
+use Rattle.std.specs.Str.{all_ascii_digits}
+use Rattle.std.specs.Str.Parse.{digits_value}
+use Rattle.std.proofs.lemmas.Bool.{le-leb}
+use Rattle.std.proofs.lemmas.Bool.Decides.{nat_tests, eqb_tells}
+use Rattle.std.proofs.lemmas.List.{append-nil, drop_at}
+use Rattle.std.proofs.lemmas.List.Sums.{list_all-from_AllPass}
+use Rattle.std.proofs.lemmas.Fmt.{digits_decimal, digits_value-decimal, decimal_nonempty}
+use Rattle.std.proofs.lemmas.Str.Parse.{IsNumeralModel, numerals_by_value, tells_all_ascii_digits}
+use Rattle.std.proofs.Math.Seq.{take-append_seam}
+use Rattle.gx_tokens.specs.declared.runs.TheConstants.{MOST_WORD_BYTES, MOST_TEXT_BYTES, MOST_NUMBER}
+use Rattle.gx_tokens.specs.declared.symbol.Symbol.{Symbol}
+use Rattle.gx_tokens.specs.declared.symbol.Symbol.TheVariants as symbols
+use Rattle.gx_tokens.specs.Toks.{Tok, word, number, quoted, symbol, Lexed, whole}
+use Rattle.gx_tokens.specs.Symbols.{spelling, paired, with_equals}
+use Rattle.gx_tokens.specs.Quotes.{quoted_from}
+use Rattle.gx_tokens.specs.Lexing.{before, no_more, gap_at, is_space, is_word_byte, lexed, lexed_from, mark_len, quoted_at, token_at, word_at, number_at}
+use Rattle.gx_tokens.specs.Proper.{IsWord, IsProper}
+use Rattle.gx_tokens.specs.Spacing.{Piece, token, sign, function, tok, escape, escapes, text_of, follows, is_open, leads, spaced_on, spaced, lined, toks_of_lines, toks, AreProper, AreProperLines, ReadsBack, ReadsLinesBack}
+use Rattle.gx_tokens.proofs.LexingLemmas.{lexed_from-drop}
+
+-- the text does not begin with a byte that passes
+abbrev Stops : (ℕ → Bool) → List ℕ → Type 0
+Stops p [] = Unit {0}
+Stops p (c ∷ cs) = p c ≡ false
+
+-- the bytes that would go on a token
+abbrev lengthens : Symbol → Bool
+lengthens symbols.Assign = true
+lengthens symbols.Less = true
+lengthens symbols.Greater = true
+lengthens _ = false
+
+abbrev goes_on : Tok → ℕ → Bool
+goes_on (word w) c = is_word_byte c
+goes_on (number n) c = is_ascii_digit c
+goes_on (quoted s) c = false
+goes_on (symbol s) c = (c == 61) && lengthens s
+
+-- runs of bytes
+run-len : (p : ℕ → Bool) (xs rest : List ℕ) → list_all p xs ≡ true → Stops p rest → prefix_len p (xs ++ rest) ≡ length xs
+run-len p [] [] a s = refl
+run-len p [] (c ∷ cs) a s = rw s refl
+run-len p (x ∷ xs) rest a s = go (p x) (list_all p xs) refl refl a (λ f. run-len p xs rest f s)
+  where
+    go : (b d : Bool) → p x ≡ b → list_all p xs ≡ d → (b && d) ≡ true → (list_all p xs ≡ true → prefix_len p (xs ++ rest) ≡ length xs) → cond (p x) (1 + prefix_len p (xs ++ rest)) 0 ≡ suc (length xs)
+    go true true e f h more = rw (e, more f) (omega arith)
+    go true false e f h more = cc
+    go false true e f h more = cc
+    go false false e f h more = cc
+
+run-take : (p : ℕ → Bool) (xs rest : List ℕ) → list_all p xs ≡ true → Stops p rest → take_while p (xs ++ rest) ≡ xs
+run-take p xs rest a s = ap (λ n. take n (xs ++ rest)) (run-len p xs rest a s) ∙ take-append_seam xs rest
+
+-- words
+letter-kinds : (c : ℕ) → is_ascii_alphabetic c ≡ true → (is_space c ≡ false) × ((c == 35) ≡ false)
+letter-kinds c h = (grind (arith, nat_tests), grind (arith, nat_tests))
+
+digit-kinds : (c : ℕ) → is_ascii_digit c ≡ true → (is_ascii_alphabetic c ≡ false) × (is_space c ≡ false) × ((c == 35) ≡ false)
+digit-kinds c h = (grind (arith, nat_tests), grind (arith, nat_tests), grind (arith, nat_tests))
+
+-- what stands at the front of a text is this token
+record Begins (t : Tok) (text : List ℕ) (len : ℕ) : Type 0 where
+  no_gap : gap_at text ≡ None
+  read : token_at text ≡ Ok (len, t)
+  some : 0 < len
+
+word-begins : (w rest : List ℕ) → IsWord w → Stops is_word_byte rest → Begins (word w) (w ++ rest) (length w)
+unfolding gap_at token_at word_at
+word-begins [] rest p s = let lie : false ≡ true = p.begins in cc
+word-begins (c ∷ cs) rest p s =
+    let letter : is_ascii_alphabetic c ≡ true = p.begins in
+    let all : list_all is_word_byte (c ∷ cs) ≡ true = list_all-from_AllPass is_word_byte (c ∷ cs) p.bytes in
+    let kinds = letter-kinds c letter in
+    let few : nat_le (length (c ∷ cs)) MOST_WORD_BYTES ≡ true = le-leb _ _ p.few in
+    record {
+      no_gap = rw (kinds.0, kinds.1) refl;
+      read = rw (letter, run-take is_word_byte (c ∷ cs) rest all s, run-len is_word_byte (c ∷ cs) rest all s, few) refl;
+      some = omega arith;
+    }
+
+-- numbers
+own : IsNumeralModel (λ ds. all_ascii_digits ds ≡ true) (digits_value 10)
+own = numerals_by_value _ tells_all_ascii_digits
+
+digits-all : (ds : List ℕ) → all_ascii_digits ds ≡ list_all is_ascii_digit ds
+digits-all [] = refl
+digits-all (c ∷ cs) = ap (λ b. is_ascii_digit c && b) (digits-all cs)
+
+first_of : (a b : Bool) → (a && b) ≡ true → a ≡ true
+first_of true b h = refl
+first_of false b h = cc
+
+number-read : (ds rest : List ℕ) (n : ℕ) → list_all is_ascii_digit ds ≡ true → digits_value 10 ds ≡ n → n ≤ MOST_NUMBER → Stops is_ascii_digit rest → number_at (ds ++ rest) ≡ Ok (length ds, number n)
+unfolding number_at
+number-read ds rest n a v m s =
+    let few : nat_le n MOST_NUMBER ≡ true = le-leb _ _ m in
+    rw (run-take is_ascii_digit ds rest a s, run-len is_ascii_digit ds rest a s, v, few) refl
+
+digits-begin : (ds rest : List ℕ) (n : ℕ) → 0 < length ds → all_ascii_digits ds ≡ true → digits_value 10 ds ≡ n → n ≤ MOST_NUMBER → Stops is_ascii_digit rest → Begins (number n) (ds ++ rest) (length ds)
+unfolding gap_at token_at
+digits-begin [] rest n some a v m s = absurd (omega arith)
+digits-begin (c ∷ cs) rest n some a v m s =
+    let digit : is_ascii_digit c ≡ true = first_of (is_ascii_digit c) (all_ascii_digits cs) a in
+    let all : list_all is_ascii_digit (c ∷ cs) ≡ true = sym (digits-all (c ∷ cs)) ∙ a in
+    let kinds = digit-kinds c digit in
+    record {
+      no_gap = rw (kinds.1, kinds.2) refl;
+      read = rw (kinds.0, digit) (number-read (c ∷ cs) rest n all v m s);
+      some = omega arith;
+    }
+
+number-begins : (n : ℕ) (rest : List ℕ) → n ≤ MOST_NUMBER → Stops is_ascii_digit rest → Begins (number n) (decimal n ++ rest) (length (decimal n))
+number-begins n rest m s =
+    let small : n < 2 ^ 64 = omega arith in
+    digits-begin (decimal n) rest n (decimal_nonempty n small) (digits_decimal own n small) (digits_value-decimal own n small) m s
+
+-- quoted texts
+abbrev past : List ℕ → ℕ → ℕ
+past [] n = n
+past (x ∷ xs) n = suc (past xs n)
+
+past-is : (xs : List ℕ) (n : ℕ) → past xs n ≡ length xs + n
+past-is [] n = omega arith
+past-is (x ∷ xs) n = omega (arith, past-is xs n)
+
+escape-plain : (c : ℕ) (cs : List ℕ) (n : ℕ) (v : List ℕ) → (c == 34) ≡ false → (c == 92) ≡ false → (c == 10) ≡ false → (c == 9) ≡ false → (c == 13) ≡ false
+    → quoted_from false cs ≡ Some (n, v) → quoted_from false (escape c ++ cs) ≡ Some (past (escape c) n, c ∷ v)
+escape-plain c cs n v a b d e f h = rw (a, b, d, e, f, a, b, d, f, h) refl
+
+escape-read : (c : ℕ) (cs : List ℕ) (n : ℕ) (v : List ℕ) → quoted_from false cs ≡ Some (n, v) → quoted_from false (escape c ++ cs) ≡ Some (past (escape c) n, c ∷ v)
+escape-read c cs n v h = go (eqb_tells c 34) (eqb_tells c 92) (eqb_tells c 10) (eqb_tells c 9) (eqb_tells c 13)
+  where
+    go : (((c == 34) ≡ true) × (c ≡ 34)) ⊎ (((c == 34) ≡ false) × (c ≢ 34)) → (((c == 92) ≡ true) × (c ≡ 92)) ⊎ (((c == 92) ≡ false) × (c ≢ 92))
+        → (((c == 10) ≡ true) × (c ≡ 10)) ⊎ (((c == 10) ≡ false) × (c ≢ 10)) → (((c == 9) ≡ true) × (c ≡ 9)) ⊎ (((c == 9) ≡ false) × (c ≢ 9))
+        → (((c == 13) ≡ true) × (c ≡ 13)) ⊎ (((c == 13) ≡ false) × (c ≢ 13)) → quoted_from false (escape c ++ cs) ≡ Some (past (escape c) n, c ∷ v)
+    go (inl a) b d e f = rw (a.1, h) refl
+    go (inr a) (inl b) d e f = rw (b.1, h) refl
+    go (inr a) (inr b) (inl d) e f = rw (d.1, h) refl
+    go (inr a) (inr b) (inr d) (inl e) f = rw (e.1, h) refl
+    go (inr a) (inr b) (inr d) (inr e) (inl f) = rw (f.1, h) refl
+    go (inr a) (inr b) (inr d) (inr e) (inr f) = escape-plain c cs n v a.0 b.0 d.0 e.0 f.0 h
+
+escapes-read : (s rest : List ℕ) → quoted_from false (escapes s ++ 34 ∷ rest) ≡ Some (length (escapes s), s)
+escapes-read [] rest = refl
+escapes-read (c ∷ cs) rest =
+    let bytes : past (escape c) (length (escapes cs)) ≡ length (escapes (c ∷ cs)) = omega (arith, past-is (escape c) (length (escapes cs)), length-append (escape c) (escapes cs)) in
+    rw (append_assoc (escape c) (escapes cs) (34 ∷ rest), escape-read c (escapes cs ++ 34 ∷ rest) (length (escapes cs)) cs (escapes-read cs rest), bytes) refl
+
+quoted-begins : (s rest : List ℕ) → length s ≤ MOST_TEXT_BYTES → Begins (quoted s) ((34 ∷ escapes s ++ 34 ∷ []) ++ rest) (length (34 ∷ escapes s ++ 34 ∷ []))
+unfolding gap_at token_at quoted_at
+quoted-begins s rest m =
+    let few : nat_le (length s) MOST_TEXT_BYTES ≡ true = le-leb _ _ m in
+    let bytes : length (34 ∷ escapes s ++ 34 ∷ []) ≡ length (escapes s) + 2 = omega (arith, length-append (escapes s) (34 ∷ [])) in
+    record {
+      no_gap = refl;
+      read = rw (append_assoc (escapes s) (34 ∷ []) rest, escapes-read s rest, few, bytes) refl;
+      some = omega arith;
+    }
+
+-- symbols
+lone : (c : ℕ) (rest : List ℕ) → with_equals c ≡ None → paired c rest ≡ None
+lone c [] h = refl
+lone c (d ∷ ds) h = go (d == 61)
+  where
+    go : (b : Bool) → (if b then with_equals c else None) ≡ None
+    go true = h
+    go false = refl
+
+and_true : (b : Bool) → (b && true) ≡ false → b ≡ false
+and_true true h = cc
+and_true false h = refl
+
+and_false : (b : Bool) → (b && false) ≡ false
+and_false true = refl
+and_false false = refl
+
+unequal : (c : ℕ) (rest : List ℕ) → Stops (λ d. (d == 61) && true) rest → paired c rest ≡ None
+unequal c [] s = refl
+unequal c (d ∷ ds) s = rw (and_true (d == 61) s) refl
+
+symbol-begins : (s : Symbol) (rest : List ℕ) → Stops (goes_on (symbol s)) rest → Begins (symbol s) (spelling s ++ rest) (length (spelling s))
+unfolding gap_at token_at
+symbol-begins symbols.Equal rest h = record { no_gap = refl; read = refl; some = omega arith }
+symbol-begins symbols.NotEqual rest h = record { no_gap = refl; read = refl; some = omega arith }
+symbol-begins symbols.LessEqual rest h = record { no_gap = refl; read = refl; some = omega arith }
+symbol-begins symbols.GreaterEqual rest h = record { no_gap = refl; read = refl; some = omega arith }
+symbol-begins symbols.Assign rest h = record { no_gap = refl; read = rw (unequal 61 rest h) refl; some = omega arith }
+symbol-begins symbols.Less rest h = record { no_gap = refl; read = rw (unequal 60 rest h) refl; some = omega arith }
+symbol-begins symbols.Greater rest h = record { no_gap = refl; read = rw (unequal 62 rest h) refl; some = omega arith }
+symbol-begins symbols.Open rest h = record { no_gap = refl; read = rw (lone 40 rest refl) refl; some = omega arith }
+symbol-begins symbols.Close rest h = record { no_gap = refl; read = rw (lone 41 rest refl) refl; some = omega arith }
+symbol-begins symbols.Comma rest h = record { no_gap = refl; read = rw (lone 44 rest refl) refl; some = omega arith }
+symbol-begins symbols.Semicolon rest h = record { no_gap = refl; read = rw (lone 59 rest refl) refl; some = omega arith }
+symbol-begins symbols.Colon rest h = record { no_gap = refl; read = rw (lone 58 rest refl) refl; some = omega arith }
+symbol-begins symbols.Dot rest h = record { no_gap = refl; read = rw (lone 46 rest refl) refl; some = omega arith }
+symbol-begins symbols.Plus rest h = record { no_gap = refl; read = rw (lone 43 rest refl) refl; some = omega arith }
+symbol-begins symbols.Minus rest h = record { no_gap = refl; read = rw (lone 45 rest refl) refl; some = omega arith }
+symbol-begins symbols.Star rest h = record { no_gap = refl; read = rw (lone 42 rest refl) refl; some = omega arith }
+symbol-begins symbols.Slash rest h = record { no_gap = refl; read = rw (lone 47 rest refl) refl; some = omega arith }
+symbol-begins symbols.Percent rest h = record { no_gap = refl; read = rw (lone 37 rest refl) refl; some = omega arith }
+
+-- a token whose text does not go on is read back
+begins : (t : Tok) (rest : List ℕ) → IsProper t → Stops (goes_on t) rest → Begins t (text_of t ++ rest) (length (text_of t))
+begins (word w) rest p s = word-begins w rest p s
+begins (number n) rest p s = number-begins n rest p s
+begins (quoted v) rest p s = quoted-begins v rest p
+begins (symbol c) rest p s = symbol-begins c rest s
+
+taken : (at n : ℕ) (t : Tok) (text : List ℕ) → Begins t text n → n ≤ length text → lexed_from at 0 text ≡ before (at, t) (lexed_from (at + n) 0 (drop n text))
+unfolding lexed_from
+taken at zero t text b h = absurd (omega (arith, b.some))
+taken at (suc n) t [] b h = absurd (omega arith)
+taken at (suc n) t (c ∷ cs) b h =
+    let less : suc n - 1 ≡ n = omega arith in
+    let place : suc at + n ≡ at + suc n = omega arith in
+    rw (b.no_gap, b.read, less, lexed_from-drop (suc at) n cs (omega arith), place) refl
+
+reads_one : (at : ℕ) (t : Tok) (rest : List ℕ) → IsProper t → Stops (goes_on t) rest → lexed_from at 0 (text_of t ++ rest) ≡ before (at, t) (lexed_from (at + length (text_of t)) 0 rest)
+reads_one at t rest p s =
+    let short : length (text_of t) ≤ length (text_of t ++ rest) = omega (arith, length-append (text_of t) rest) in
+    taken at (length (text_of t)) t (text_of t ++ rest) (begins t rest p s) short
+    ∙ ap (λ r. before (at, t) (lexed_from (at + length (text_of t)) 0 r)) (drop_at (text_of t) rest (length (text_of t)) refl)
+
+-- a byte that goes on no token
+byte_stops : (t : Tok) (c : ℕ) (xs : List ℕ) → is_word_byte c ≡ false → is_ascii_digit c ≡ false → (c == 61) ≡ false → Stops (goes_on t) (c ∷ xs)
+byte_stops (word w) c xs a b d = a
+byte_stops (number n) c xs a b d = b
+byte_stops (quoted v) c xs a b d = refl
+byte_stops (symbol s) c xs a b d = rw d refl
+
+none_stops : (p : ℕ → Bool) (xs : List ℕ) → ((c : ℕ) → p c ≡ false) → Stops p xs
+none_stops p [] h = tt
+none_stops p (c ∷ cs) h = h c
+
+-- tokens that stand close do not join
+follows_stops : (t u : Tok) (rest : List ℕ) → follows u ≡ true → Stops (goes_on t) (text_of u ++ rest)
+follows_stops t (symbol symbols.Comma) rest h = byte_stops t 44 rest refl refl refl
+follows_stops t (symbol symbols.Semicolon) rest h = byte_stops t 59 rest refl refl refl
+follows_stops t (symbol symbols.Close) rest h = byte_stops t 41 rest refl refl refl
+follows_stops t (symbol symbols.Dot) rest h = byte_stops t 46 rest refl refl refl
+follows_stops t (symbol symbols.Colon) rest h = byte_stops t 58 rest refl refl refl
+follows_stops t _ rest h = cc
+
+open_stops : (name : List ℕ) (u : Tok) (rest : List ℕ) → is_open u ≡ true → Stops (goes_on (word name)) (text_of u ++ rest)
+open_stops name (symbol symbols.Open) rest h = refl
+open_stops name _ rest h = cc
+
+leads_stops : (p : Piece) (u : Tok) (rest : List ℕ) → leads p u ≡ true → Stops (goes_on (tok p)) (text_of u ++ rest)
+leads_stops (token (symbol symbols.Open)) u rest h = none_stops _ _ (λ c. and_false (c == 61))
+leads_stops (token (symbol symbols.Dot)) u rest h = none_stops _ _ (λ c. and_false (c == 61))
+leads_stops (token _) u rest h = cc
+leads_stops sign u rest h = none_stops _ _ (λ c. and_false (c == 61))
+leads_stops (function name) u rest h = open_stops name u rest h
+
+close_stops : (p : Piece) (u : Tok) (rest : List ℕ) → (follows u || leads p u) ≡ true → Stops (goes_on (tok p)) (text_of u ++ rest)
+close_stops p u rest h = go (follows u) (leads p u) refl refl h
+  where
+    go : (a b : Bool) → follows u ≡ a → leads p u ≡ b → (a || b) ≡ true → Stops (goes_on (tok p)) (text_of u ++ rest)
+    go true b e f i = follows_stops (tok p) u rest e
+    go false true e f i = leads_stops p u rest f
+    go false false e f i = cc
+
+-- the text ends here, or a line does
+abbrev LineEnds : List ℕ → Type 0
+LineEnds [] = Unit {0}
+LineEnds (c ∷ cs) = c ≡ 10
+
+line_stops : (t : Tok) (rest : List ℕ) → LineEnds rest → Stops (goes_on t) rest
+line_stops t [] e = tt
+line_stops t (c ∷ cs) e = subst (λ d. Stops (goes_on t) (d ∷ cs)) (sym e) (byte_stops t 10 cs refl refl refl)
+
+stops_behind : (p : Piece) (ps : List Piece) (rest : List ℕ) → LineEnds rest → Stops (goes_on (tok p)) (spaced_on p ps ++ rest)
+stops_behind p [] rest e = line_stops (tok p) rest e
+stops_behind p (q ∷ qs) rest e = go (follows (tok q) || leads p (tok q)) refl
+  where
+    go : (b : Bool) → (follows (tok q) || leads p (tok q)) ≡ b → Stops (goes_on (tok p)) (((if b then [] else 32 ∷ []) ++ (text_of (tok q) ++ spaced_on q qs)) ++ rest)
+    go true h = subst (Stops (goes_on (tok p))) (sym (append_assoc (text_of (tok q)) (spaced_on q qs) rest)) (close_stops p (tok q) (spaced_on q qs ++ rest) h)
+    go false h = byte_stops (tok p) 32 ((text_of (tok q) ++ spaced_on q qs) ++ rest) refl refl refl
+
+-- these tokens, and then those of b, which end as b does
+pub record Same (ts : List Tok) (a b : Lexed) : Type 0 where
+  pub tokens : toks a ≡ ts ++ toks b
+  pub ending : a.ending ≡ b.ending
+
+same_before : (k : ℕ) (t : Tok) (ts : List Tok) (a b : Lexed) → Same ts a b → Same (t ∷ ts) (before (k, t) a) b
+same_before k t ts a b s = record { tokens = ap (λ l. t ∷ l) s.tokens; ending = s.ending }
+
+same_at : (ts : List Tok) (a c b : Lexed) → a ≡ c → Same ts c b → Same ts a b
+same_at ts a c b e s = subst (λ x. Same ts x b) (sym e) s
+
+piece-reads : (at place : ℕ) (p : Piece) (ps : List Piece) (rest : List ℕ) → IsProper (tok p) → LineEnds rest
+    → ((from : ℕ) → place ≡ from + length (spaced_on p ps) → Same (map tok ps) (lexed_from from 0 (spaced_on p ps ++ rest)) (lexed_from place 0 rest))
+    → place ≡ at + length (text_of (tok p) ++ spaced_on p ps) → Same (map tok (p ∷ ps)) (lexed_from at 0 ((text_of (tok p) ++ spaced_on p ps) ++ rest)) (lexed_from place 0 rest)
+piece-reads at place p ps rest proper e behind is =
+    same_at _ _ (before (at, tok p) (lexed_from (at + length (text_of (tok p))) 0 (spaced_on p ps ++ rest))) _
+    (ap (lexed_from at 0) (append_assoc (text_of (tok p)) (spaced_on p ps) rest) ∙ reads_one at (tok p) (spaced_on p ps ++ rest) proper (stops_behind p ps rest e))
+    (same_before at (tok p) _ _ _ (behind (at + length (text_of (tok p))) (omega (arith, length-append (text_of (tok p)) (spaced_on p ps)))))
+
+space-passed : (at c : ℕ) (text : List ℕ) → is_space c ≡ true → lexed_from at 0 (c ∷ text) ≡ lexed_from (suc at) 0 text
+unfolding lexed_from gap_at
+space-passed at c text h = rw h refl
+
+spaced_on-reads : (p : Piece) (ps : List Piece) (at place : ℕ) (rest : List ℕ) → AreProper ps → LineEnds rest → place ≡ at + length (spaced_on p ps)
+    → Same (map tok ps) (lexed_from at 0 (spaced_on p ps ++ rest)) (lexed_from place 0 rest)
+spaced_on-reads p [] at place rest proper e is =
+    let here : place ≡ at = omega arith in
+    rw here (record { tokens = refl; ending = refl })
+spaced_on-reads p (q ∷ qs) at place rest proper e is = go (follows (tok q) || leads p (tok q)) is (λ from j. spaced_on-reads q qs from place rest proper.1 e j)
+  where
+    go : (b : Bool) → place ≡ at + length ((if b then [] else 32 ∷ []) ++ (text_of (tok q) ++ spaced_on q qs))
+        → ((from : ℕ) → place ≡ from + length (spaced_on q qs) → Same (map tok qs) (lexed_from from 0 (spaced_on q qs ++ rest)) (lexed_from place 0 rest))
+        → Same (map tok (q ∷ qs)) (lexed_from at 0 (((if b then [] else 32 ∷ []) ++ (text_of (tok q) ++ spaced_on q qs)) ++ rest)) (lexed_from place 0 rest)
+    go true i behind = piece-reads at place q qs rest proper.0 e behind i
+    go false i behind = same_at _ _ _ _ (space-passed at 32 ((text_of (tok q) ++ spaced_on q qs) ++ rest) refl) (piece-reads (suc at) place q qs rest proper.0 e behind (omega arith))
+
+pub spaced-reads : (ps : List Piece) (at place : ℕ) (rest : List ℕ) → AreProper ps → LineEnds rest → place ≡ at + length (spaced ps)
+    → Same (map tok ps) (lexed_from at 0 (spaced ps ++ rest)) (lexed_from place 0 rest)
+spaced-reads [] at place rest proper e is =
+    let here : place ≡ at = omega arith in
+    rw here (record { tokens = refl; ending = refl })
+spaced-reads (p ∷ ps) at place rest proper e is = piece-reads at place p ps rest proper.0 e (λ from j. spaced_on-reads p ps from place rest proper.1 e j) is
+
+-- no text of tokens begins with a byte order mark
+mark_free : (c : ℕ) (xs : List ℕ) → (c == 239) ≡ false → mark_len (c ∷ xs) ≡ 0
+unfolding mark_len
+mark_free c [] h = refl
+mark_free c (d ∷ []) h = refl
+mark_free c (d ∷ e ∷ rest) h = rw h refl
+
+word_mark : (w rest : List ℕ) → IsWord w → mark_len (w ++ rest) ≡ 0
+word_mark [] rest p = let lie : false ≡ true = p.begins in cc
+word_mark (c ∷ cs) rest p = let letter : is_ascii_alphabetic c ≡ true = p.begins in mark_free c (cs ++ rest) (grind (arith, nat_tests))
+
+digits_mark : (ds rest : List ℕ) → 0 < length ds → all_ascii_digits ds ≡ true → mark_len (ds ++ rest) ≡ 0
+digits_mark [] rest some a = absurd (omega arith)
+digits_mark (c ∷ cs) rest some a =
+    let digit : is_ascii_digit c ≡ true = first_of (is_ascii_digit c) (all_ascii_digits cs) a in
+    mark_free c (cs ++ rest) (grind (arith, nat_tests))
+
+symbol_mark : (s : Symbol) (rest : List ℕ) → mark_len (spelling s ++ rest) ≡ 0
+symbol_mark symbols.Open rest = mark_free 40 rest refl
+symbol_mark symbols.Close rest = mark_free 41 rest refl
+symbol_mark symbols.Comma rest = mark_free 44 rest refl
+symbol_mark symbols.Semicolon rest = mark_free 59 rest refl
+symbol_mark symbols.Colon rest = mark_free 58 rest refl
+symbol_mark symbols.Dot rest = mark_free 46 rest refl
+symbol_mark symbols.Assign rest = mark_free 61 rest refl
+symbol_mark symbols.Equal rest = mark_free 61 (61 ∷ rest) refl
+symbol_mark symbols.NotEqual rest = mark_free 33 (61 ∷ rest) refl
+symbol_mark symbols.Less rest = mark_free 60 rest refl
+symbol_mark symbols.LessEqual rest = mark_free 60 (61 ∷ rest) refl
+symbol_mark symbols.Greater rest = mark_free 62 rest refl
+symbol_mark symbols.GreaterEqual rest = mark_free 62 (61 ∷ rest) refl
+symbol_mark symbols.Plus rest = mark_free 43 rest refl
+symbol_mark symbols.Minus rest = mark_free 45 rest refl
+symbol_mark symbols.Star rest = mark_free 42 rest refl
+symbol_mark symbols.Slash rest = mark_free 47 rest refl
+symbol_mark symbols.Percent rest = mark_free 37 rest refl
+
+no_mark : (t : Tok) (rest : List ℕ) → IsProper t → mark_len (text_of t ++ rest) ≡ 0
+no_mark (word w) rest p = word_mark w rest p
+no_mark (number n) rest p =
+    let small : n < 2 ^ 64 = omega arith in
+    digits_mark (decimal n) rest (decimal_nonempty n small) (digits_decimal own n small)
+no_mark (quoted s) rest p = mark_free 34 ((escapes s ++ 34 ∷ []) ++ rest) refl
+no_mark (symbol s) rest p = symbol_mark s rest
+
+line_mark : (ps : List Piece) (rest : List ℕ) → AreProper ps → LineEnds rest → mark_len (spaced ps ++ rest) ≡ 0
+unfolding mark_len
+line_mark [] [] p e = refl
+line_mark [] (c ∷ cs) p e = subst (λ d. mark_len (d ∷ cs) ≡ 0) (sym e) (mark_free 10 cs refl)
+line_mark (q ∷ qs) rest p e = ap mark_len (append_assoc (text_of (tok q)) (spaced_on q qs) rest) ∙ no_mark (tok q) (spaced_on q qs ++ rest) p.0
+
+lexed-at : (text : List ℕ) → mark_len text ≡ 0 → lexed text ≡ lexed_from 0 0 text
+unfolding lexed
+lexed-at text h = ap (λ n. lexed_from 0 n text) h
+
+at_end : (place : ℕ) → lexed_from place 0 [] ≡ no_more (whole place)
+unfolding lexed_from
+at_end place = refl
+
+same_then : (ts us : List Tok) (a b c : Lexed) → Same ts a b → Same us b c → Same (ts ++ us) a c
+same_then ts us a b c s t = record { tokens = s.tokens ∙ ap (λ l. ts ++ l) t.tokens ∙ sym (append_assoc ts us (toks c)); ending = s.ending ∙ t.ending }
+
+whole_text : (ts : List Tok) (text : List ℕ) (place : ℕ) → mark_len text ≡ 0 → Same ts (lexed_from 0 0 text) (no_more (whole place)) → (toks (lexed text) ≡ ts) × ((lexed text).ending ≡ whole place)
+whole_text ts text place h s = rw (lexed-at text h) (s.tokens ∙ append-nil ts, s.ending)
+
+pub reads_back : ReadsBack
+reads_back ps proper =
+    whole_text (map tok ps) (spaced ps) (length (spaced ps)) (ap mark_len (sym (append-nil (spaced ps))) ∙ line_mark ps [] proper tt)
+    (same_at _ _ (lexed_from 0 0 (spaced ps ++ [])) _ (ap (lexed_from 0 0) (sym (append-nil (spaced ps))))
+    (subst (λ b. Same (map tok ps) (lexed_from 0 0 (spaced ps ++ [])) b) (at_end (length (spaced ps))) (spaced-reads ps 0 (length (spaced ps)) [] proper tt (omega arith))))
+
+pub lined-reads : (pss : List (List Piece)) (at place : ℕ) → AreProperLines pss → place ≡ at + length (lined pss) → Same (toks_of_lines pss) (lexed_from at 0 (lined pss)) (no_more (whole place))
+lined-reads [] at place proper is =
+    let here : place ≡ at = omega arith in
+    rw here (same_at [] _ (no_more (whole at)) _ (at_end at) (record { tokens = refl; ending = refl }))
+lined-reads (ps ∷ pss) at place proper is =
+    let middle : ℕ = at + length (spaced ps) in
+    same_then (map tok ps) (toks_of_lines pss) _ (lexed_from middle 0 (10 ∷ lined pss)) _ (spaced-reads ps at middle (10 ∷ lined pss) proper.0 refl refl)
+    (same_at _ _ (lexed_from (suc middle) 0 (lined pss)) _ (space-passed middle 10 (lined pss) refl)
+    (lined-reads pss (suc middle) place proper.1 (omega (arith, length-append (spaced ps) (10 ∷ lined pss)))))
+
+lines_mark : (pss : List (List Piece)) → AreProperLines pss → mark_len (lined pss) ≡ 0
+unfolding mark_len
+lines_mark [] p = refl
+lines_mark (ps ∷ pss) p = line_mark ps (10 ∷ lined pss) p.0 refl
+
+pub reads_lines_back : ReadsLinesBack
+reads_lines_back pss proper = whole_text (toks_of_lines pss) (lined pss) (length (lined pss)) (lines_mark pss proper) (lined-reads pss 0 (length (lined pss)) proper (omega arith))

@@ -1,0 +1,15 @@
+use denote.Shadow.{shadow}
+use denote.Text.{Utf8}
+use Rattle.std.proofs.Common.{◌≡◌, ◌++◌, length}
+use Rattle.std.specs.Prelude.{string_bytes}
+use Rattle.gx_tokens.specs.Spacing.{escapes}
+use Rattle.gx_tokens.proofs.quotation.put_escaped.Given as goal
+
+abbrev pub invariant-loop-first : goal.invariant-loop-first
+invariant-loop-first l = record {
+  so_far : string_bytes l.out ++ escapes l.rest ≡ string_bytes l.fn.out ++ escapes l.fn.value;
+  text : shadow (Utf8 l.rest);
+}
+
+abbrev pub decreases-loop-first : goal.decreases-loop-first
+decreases-loop-first l = length l.rest

@@ -1,0 +1,9 @@
+pub mod Left
+pub mod Lexing
+pub mod Proper
+pub mod Quotes
+pub mod Spacing
+pub mod Symbols
+pub mod Taking
+pub mod TokenTexts
+pub mod Toks

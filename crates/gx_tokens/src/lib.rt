@@ -1,0 +1,27 @@
+//! The tokens of the script language: how a text falls into them, and how they are written with
+//! spaces between them.
+//!
+//! `Tokens` takes the tokens of a text one by one and takes no memory; `lex` lists them for the
+//! parser. What is written by the rule of spaces in `specs/Spacing.antt` falls into the same tokens
+//! again. The crate stands on `gx_rows`; the grammar and the printer of scripts stand on it.
+#![tactic(auto)]
+
+mod escapes;
+mod laws;
+mod lexeme;
+mod quotation;
+mod quote;
+mod reader;
+mod runs;
+mod symbol;
+mod syntax_kind;
+mod token;
+mod tokens;
+
+pub use laws::spaced_text_is_read_back;
+pub use lexeme::{End, Lexeme, Placed, lex, unescape};
+pub use quotation::put_quoted;
+pub use symbol::Symbol;
+pub use syntax_kind::SyntaxKind;
+pub use token::{Token, TokenKind};
+pub use tokens::Tokens;
