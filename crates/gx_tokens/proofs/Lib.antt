@@ -6,3 +6,4 @@ pub mod ReaderLemmas
 pub mod SpacingLemmas
 pub mod SymbolLemmas
 pub mod TakenLemmas
+pub mod WritingLemmas

@@ -19,6 +19,7 @@ use Rattle.gx_tokens.specs.declared.syntax_kind.SyntaxKind.TheVariants.{TextLong
 use Rattle.gx_tokens.specs.Lexing.{gap_at, is_word_byte, lexed, lexed_from, limited, mark_len, number_at, quoted_at, read_on, spelled, token_at, word_at}
 use Rattle.gx_tokens.specs.Proper.{IsProper, IsWord}
 use Rattle.gx_tokens.specs.Quotes.{quoted_from}
+use Rattle.gx_tokens.specs.Spacing.{AreProperToks, ReadsProper}
 use Rattle.gx_tokens.specs.Symbols.{symbol_at}
 use Rattle.gx_tokens.specs.Toks.{Lexed, Tok, word, number, quoted}
 use Rattle.gx_tokens.specs.TokenTexts.{lexed_of, placed_of, tok_of}
@@ -120,3 +121,10 @@ placed-proper tokens end text is k d below =
     let all : AllProper (map placed_of tokens) = subst AllProper (sym (ap (λ (x : Lexed). x.tokens) is)) (lexed-proper text) in
     let here = all k (placed_of d) (omega (arith, length-map tokens placed_of)) in
     subst (λ (p : ℕ × Tok). IsProper p.1) (get_or-map placed_of tokens k d (placed_of d) below) here
+
+all-toks : (ps : List (ℕ × Tok)) → AllProper ps → AreProperToks (map (λ (p : ℕ × Tok). p.1) ps)
+all-toks [] all = tt
+all-toks (p ∷ ps) all = (all 0 p (omega arith), all-toks ps (λ k d below. all (suc k) d (omega (arith, below))))
+
+pub reads_proper : ReadsProper
+reads_proper text = all-toks (lexed text).tokens (lexed-proper text)

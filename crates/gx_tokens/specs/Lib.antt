@@ -7,3 +7,4 @@ pub mod Symbols
 pub mod Taking
 pub mod TokenTexts
 pub mod Toks
+pub mod Writing

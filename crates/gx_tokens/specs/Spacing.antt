@@ -119,3 +119,7 @@ spaced-call = refl
 abbrev pub AreProperToks : List Tok → Type 0
 AreProperToks [] = Unit {0}
 AreProperToks (t ∷ ts) = IsProper t × AreProperToks ts
+
+-- and those of any text are so
+abbrev pub ReadsProper : Type 0
+ReadsProper = (text : List ℕ) → AreProperToks (toks (lexed text))

@@ -17,11 +17,12 @@ mod symbol;
 mod syntax_kind;
 mod token;
 mod tokens;
+mod writer;
 
-pub use laws::spaced_text_is_read_back;
+pub use laws::{spaced_text_is_read_back, tokens_are_proper, tokens_are_spaced};
 pub use lexeme::{End, Lexeme, Placed, lex, unescape};
-pub use quotation::put_quoted;
 pub use symbol::Symbol;
 pub use syntax_kind::SyntaxKind;
 pub use token::{Token, TokenKind};
 pub use tokens::Tokens;
+pub use writer::{Joint, Writer};

@@ -11,7 +11,7 @@ use gx_rows::NoMemory;
 /// # Errors
 ///
 /// `NoMemory` where there is no room for the text.
-pub fn put_quoted(out: &mut String, value: &str) -> Result<(), NoMemory>
+pub(crate) fn put_quoted(out: &mut String, value: &str) -> Result<(), NoMemory>
     ensures { OnOk result (string_bytes out.new ≡ string_bytes out.old ++ 34 ∷ escapes value.now ++ 34 ∷ []) }
 {
     out.push_str("\"")?;

@@ -45,14 +45,37 @@ pub enum Symbol {
 }
 
 impl Symbol {
+    /// The symbol as it is written.
+    pub(crate) fn spelling(self) -> &'static str
+        ensures { result.now ≡ spelling self }
+    {
+        match self {
+            Symbol::Open => "(",
+            Symbol::Close => ")",
+            Symbol::Comma => ",",
+            Symbol::Semicolon => ";",
+            Symbol::Colon => ":",
+            Symbol::Dot => ".",
+            Symbol::Assign => "=",
+            Symbol::Equal => "==",
+            Symbol::NotEqual => "!=",
+            Symbol::Less => "<",
+            Symbol::LessEqual => "<=",
+            Symbol::Greater => ">",
+            Symbol::GreaterEqual => ">=",
+            Symbol::Plus => "+",
+            Symbol::Minus => "-",
+            Symbol::Star => "*",
+            Symbol::Slash => "/",
+            Symbol::Percent => "%",
+        }
+    }
+
     /// The bytes of the symbol.
     pub(crate) fn len(self) -> usize
         ensures { result ≡ length (spelling self) }
     {
-        match self {
-            Symbol::Equal | Symbol::NotEqual | Symbol::LessEqual | Symbol::GreaterEqual => 2,
-            _ => 1,
-        }
+        self.spelling().len()
     }
 }
 
