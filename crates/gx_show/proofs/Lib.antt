@@ -1,4 +1,1 @@
-pub mod PuttingLemmas
-pub mod ShownBackLemmas
 pub mod ShownLemmas
-pub mod WrittenLemmas

@@ -1,2 +1,3 @@
 pub mod Shown
-pub mod ShownBack
+pub mod ShownForms
+pub mod ShownScripts

@@ -1,11 +1,11 @@
 -- The tokens by which an expression is shown: parentheses stand just where the grammar needs them.
 use Rattle.std.specs.Prelude.{ℕ, suc, ℤ, pos, negsuc, ◌≤◌, nat_le, if◌then◌else◌, List, [], ◌∷◌, ◌++◌, length, map, codes}
 use Rattle.gx_tokens.specs.Toks.{Tok, word, number, quoted, symbol}
-use Rattle.gx_grammar.specs.Operators.{level, left, right, outer, inner, spelled, not_word}
-use Rattle.gx_grammar.specs.declared.tree.expr.Binary.{Binary}
-use Rattle.gx_grammar.specs.Grammar.{Spells}
-use Rattle.gx_tokens.specs.Spacing.{Piece, token, sign, function, tok, text_of, spaced, AreProper, AreProperToks}
+use Rattle.gx_tokens.specs.Spacing.{Piece, token, sign, function, tok, AreProper, AreProperToks}
 use Rattle.gx_tokens.specs.declared.symbol.Symbol.TheVariants as symbols
+use Rattle.gx_grammar.specs.Operators.{level, left, right, outer, inner, spelled, not_word}
+use Rattle.gx_grammar.specs.Grammar.{Spells}
+use Rattle.gx_grammar.specs.declared.tree.expr.Binary.{Binary}
 use Rattle.gx_grammar.specs.declared.tree.expr.Unary.{Unary}
 use Rattle.gx_grammar.specs.declared.tree.expr.Unary.TheVariants as unary
 use Rattle.gx_grammar.specs.declared.tree.expr.Expr.{Expr}
@@ -22,15 +22,19 @@ magnitude (negsuc n) = suc n
 abbrev pub grouped : ℕ → ℕ → List Piece → List Piece
 grouped l m ps = if nat_le l m then ps else token (symbol symbols.Open) ∷ ps ++ token (symbol symbols.Close) ∷ []
 
--- parts, each with a comma before it
-abbrev pub listed_on : List (ℕ → List Piece) → List Piece
-listed_on [] = []
-listed_on (x ∷ xs) = token (symbol symbols.Comma) ∷ x 1 ++ listed_on xs
+-- entries, each with a comma before it
+abbrev pub listed_on : {A : Type 0} → (A → List Piece) → List A → List Piece
+listed_on shown [] = []
+listed_on shown (x ∷ xs) = token (symbol symbols.Comma) ∷ shown x ++ listed_on shown xs
 
--- parts, with a comma between two
-abbrev pub listed : List (ℕ → List Piece) → List Piece
-listed [] = []
-listed (x ∷ xs) = x 1 ++ listed_on xs
+-- entries, with a comma between two
+abbrev pub listed : {A : Type 0} → (A → List Piece) → List A → List Piece
+listed shown [] = []
+listed shown (x ∷ xs) = shown x ++ listed_on shown xs
+
+-- entries in parentheses
+abbrev pub enclosed : {A : Type 0} → (A → List Piece) → List A → List Piece
+enclosed shown xs = token (symbol symbols.Open) ∷ listed shown xs ++ token (symbol symbols.Close) ∷ []
 
 -- an operator before its operand
 abbrev pub piece_before : Unary → Piece
@@ -44,7 +48,7 @@ shown_layer (layer.Quoted s) l = token (quoted s) ∷ []
 shown_layer (layer.Truth b) l = token (word (if b then codes "true" else codes "false")) ∷ []
 shown_layer layer.Matched l = token (word (codes "matched")) ∷ []
 shown_layer (layer.Column side name) l = token (word side) ∷ token (symbol symbols.Dot) ∷ token (word name) ∷ []
-shown_layer (layer.Call name xs) l = function name ∷ token (symbol symbols.Open) ∷ listed xs ++ token (symbol symbols.Close) ∷ []
+shown_layer (layer.Call name xs) l = function name ∷ enclosed (λ x. x 1) xs
 shown_layer (layer.Unary o a) l = grouped l (outer o) (piece_before o ∷ a (inner o))
 shown_layer (layer.Binary o a b) l = grouped l (level o) (a (left o) ++ token (spelled o) ∷ b (right o))
 
@@ -63,42 +67,6 @@ ShowsWhatIsSpelled = (ts : List Tok) (x : Expr) → Spells 1 ts x → Spells 1 (
 -- and no fewer tokens spell it
 abbrev pub ShowsFewest : Type 0
 ShowsFewest = (ts : List Tok) (x : Expr) → Spells 1 ts x → length (shown 1 x) ≤ length ts
-
--- its text
-abbrev pub written : ℕ → Expr → List ℕ
-written l x = spaced (pieces l x)
-
--- the parenthesis before tokens of level m where level l is wanted
-abbrev pub open_mark : ℕ → ℕ → List ℕ
-open_mark l m = if nat_le l m then [] else 40 ∷ []
-
--- and behind them
-abbrev pub close_mark : ℕ → ℕ → List ℕ
-close_mark l m = if nat_le l m then [] else 41 ∷ []
-
--- arguments, each with a comma before it
-abbrev pub on_text : List Expr → List ℕ
-on_text [] = []
-on_text (x ∷ xs) = 44 ∷ 32 ∷ (written 1 x ++ on_text xs)
-
--- what stands before an argument, by those before it
-abbrev pub between_text : List Expr → List ℕ
-between_text [] = []
-between_text (x ∷ xs) = 44 ∷ 32 ∷ []
-
--- the arguments of a call
-abbrev pub list_text : List Expr → List ℕ
-list_text [] = []
-list_text (x ∷ xs) = written 1 x ++ on_text xs
-
--- an operator before its operand, with what stands between them
-abbrev pub front_text : Unary → List ℕ
-front_text unary.Not = codes "not "
-front_text unary.Minus = codes "-"
-
--- an operator between its operands, with the spaces around it
-abbrev pub middle_text : Binary → List ℕ
-middle_text o = 32 ∷ text_of (spelled o) ++ 32 ∷ []
 
 -- what is shown of an expression may stand in a text, if tokens that may spell it
 abbrev pub ShowsProper : Type 0

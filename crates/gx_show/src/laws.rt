@@ -1,17 +1,11 @@
 //! What holds of the tokens by which a tree is shown.
 
 ghost use Rattle.gx_show.specs.Shown.{ShowsFewest, ShowsProper, ShowsWhatIsSpelled};
-ghost use Rattle.gx_show.specs.ShownBack.{ReadsShownBack};
 
 /// What is shown of an expression spells it, nothing spells it by fewer tokens, and its
 /// tokens may stand in a text if those that were read may.
-pub(crate) fn expressions_are_shown()
+pub fn expressions_are_shown()
     ensures spelled { ShowsWhatIsSpelled }
     ensures fewest { ShowsFewest }
     ensures proper { ShowsProper }
-{}
-
-/// The text of an expression is read back as this expression.
-pub(crate) fn shown_expressions_are_read_back()
-    ensures { ReadsShownBack }
 {}

@@ -5,5 +5,6 @@
 //! of `gx_grammar`; `gx_syntax` proves that what is shown is read back.
 #![tactic(auto)]
 
-mod expression;
 mod laws;
+
+pub use laws::expressions_are_shown;

@@ -1,4 +1,5 @@
 pub mod Forms
+pub mod Limits
 pub mod Marks
 pub mod Parts
 pub mod Refusals

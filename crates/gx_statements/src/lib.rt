@@ -9,6 +9,7 @@ mod cursor;
 mod entries;
 mod grammar_stop;
 mod heads;
+mod limit;
 mod loads;
 mod maps;
 mod read;
@@ -19,5 +20,6 @@ mod signs;
 mod tables;
 mod words;
 
+pub use limit::{MOST_TOKENS, kept_len};
 pub use grammar_stop::GrammarStop;
 pub use read::read_script;

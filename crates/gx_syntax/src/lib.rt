@@ -1,6 +1,7 @@
 //! The script language: texts to scripts, and scripts to their canonical spelling.
 #![tactic(auto)]
 
+mod parse;
 mod syntax_stop;
 
 pub use gx_grammar::{
@@ -8,4 +9,5 @@ pub use gx_grammar::{
     SideWord, Stmt, Unary,
 };
 pub use gx_tokens::{SyntaxKind, Token, TokenKind, Tokens};
+pub use parse::parse;
 pub use syntax_stop::SyntaxStop;

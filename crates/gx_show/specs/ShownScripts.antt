@@ -1,0 +1,24 @@
+-- What is shown of a script, beside the tokens that spelled it.
+use Rattle.std.specs.Prelude.{◌≤◌, List, length}
+use Rattle.gx_tokens.specs.Spacing.{AreProperLines, AreProperToks, toks_of_lines}
+use Rattle.gx_tokens.specs.Toks.{Tok}
+use Rattle.gx_grammar.specs.declared.tree.stmt.Stmt.{Stmt}
+use Rattle.gx_statements.specs.Forms.{SpellsScript}
+use Rattle.gx_statements.specs.Limits.{IsShort}
+use Rattle.gx_show.specs.ShownForms.{lines}
+
+-- the tokens that are shown spell the script
+abbrev pub ShowsScripts : Type 0
+ShowsScripts = (ts : List Tok) (s : List Stmt) → SpellsScript ts s → SpellsScript (toks_of_lines (lines s)) s
+
+-- no fewer tokens spell it
+abbrev pub ShowsFewestTokens : Type 0
+ShowsFewestTokens = (ts : List Tok) (s : List Stmt) → SpellsScript ts s → length (toks_of_lines (lines s)) ≤ length ts
+
+-- no statement is shown by too many tokens, if none was spelled by too many
+abbrev pub ShowsShort : Type 0
+ShowsShort = (ts : List Tok) (s : List Stmt) → SpellsScript ts s → IsShort ts → IsShort (toks_of_lines (lines s))
+
+-- what is shown may stand in a text, if the tokens that spelled it may
+abbrev pub ShowsProperLines : Type 0
+ShowsProperLines = (ts : List Tok) (s : List Stmt) → SpellsScript ts s → AreProperToks ts → AreProperLines (lines s)

@@ -1,0 +1,28 @@
+//! The tokens that a statement may have.
+
+ghost use Rattle.gx_grammar.specs.Halts.{toks_of};
+ghost use Rattle.gx_statements.specs.Limits.{IsKept};
+
+use crate::signs::is_semicolon;
+use gx_tokens::Placed;
+
+/// The most tokens of a statement, its `;` left aside.
+pub const MOST_TOKENS: usize = 2048;
+
+/// How many tokens stand before the first one that is one too many for its statement; all of them,
+/// where no statement has too many.
+pub fn kept_len(tokens: &[Placed<'_>]) -> usize
+    ensures { IsKept (toks_of tokens.now) result }
+{
+    let mut open = 0;
+    for (at, placed) in tokens.iter().enumerate() {
+        if is_semicolon(placed.lexeme) {
+            open = 0;
+        } else if open < MOST_TOKENS {
+            open += 1;
+        } else {
+            return at;
+        }
+    }
+    tokens.len()
+}
