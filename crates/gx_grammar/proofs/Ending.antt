@@ -1,7 +1,7 @@
 -- No expression goes on at the end of the tokens.
-use Rattle.std.proofs.Common.{◌≡◌, Bool, true, false, if◌then◌else◌, Option, Some, None, List, [], ◌∷◌, refl, ℕ, bytes_eq}
+use Rattle.std.proofs.Common.{◌≡◌, Bool, true, false, if◌then◌else◌, Option, Some, None, List, [], ◌∷◌, ℕ, bytes_eq}
 use Rattle.gx_grammar.specs.Operators.{not_word}
-use Rattle.gx_grammar.specs.Reading.{Answer, goes, ends, refuses, unwind, over, having, standing, constant_word, step}
+use Rattle.gx_grammar.specs.Reading.{Answer, goes, refuses, unwind, over, standing, constant_word, step}
 use Rattle.gx_grammar.specs.declared.tree.expr.Expr.{Expr}
 use Rattle.gx_grammar.specs.declared.steps.Spot.{Spot}
 use Rattle.gx_grammar.specs.declared.steps.Spot.TheVariants.{Want as want, Begun as begun, Named as named, Dotted as dotted, Have as have}

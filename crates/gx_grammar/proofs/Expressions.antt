@@ -1,13 +1,13 @@
 -- The reader of expressions reads just the expressions.
-use Rattle.std.proofs.Common.{◌≡◌, ℕ, ◌≤◌, Bool, true, false, if◌then◌else◌, ◌||◌, Option, Some, None, Result, Ok, Err, List, [], ◌∷◌, ◌++◌, refl, sym, ◌∙◌, ap, arith}
-use Rattle.gx_tokens.specs.Toks.{Tok, word, number, quoted, symbol}
+use Rattle.std.proofs.Common.{◌≡◌, Bool, true, false, if◌then◌else◌, ◌||◌, Option, Some, None, Ok, List, [], ◌∷◌, refl, ◌∙◌, arith}
+use Rattle.gx_tokens.specs.Toks.{Tok}
 use Rattle.gx_grammar.specs.Operators.{operator}
 use Rattle.gx_grammar.specs.Grammar.{Spells, constant}
-use Rattle.gx_grammar.specs.Readers.{Begun, Ends, Keeps, Takes, Faithful}
-use Rattle.gx_grammar.specs.Reading.{Answer, ends, is_dot, is_open, is_close, is_comma, settled, after, closing, parting, over, answered, step, reads, expression, goes_on, is_operator}
+use Rattle.gx_grammar.specs.Readers.{Ends, Faithful}
+use Rattle.gx_grammar.specs.Reading.{ends, is_dot, is_open, is_close, is_comma, after, closing, parting, over, step, reads, expression, goes_on, is_operator}
 use Rattle.gx_grammar.proofs.Readers.{or_left, or_right}
 use Rattle.gx_grammar.proofs.Levels.{lowered}
-use Rattle.gx_grammar.proofs.Complete.{Stops, StopsAt, complete}
+use Rattle.gx_grammar.proofs.Complete.{Stops, complete}
 use Rattle.gx_grammar.proofs.Local.{local}
 use Rattle.gx_grammar.proofs.Sound.{tells}
 use Rattle.gx_grammar.specs.declared.tree.expr.Expr.{Expr}

@@ -1,5 +1,5 @@
 -- The reader of expressions does not look beyond the token where it stops.
-use Rattle.std.proofs.Common.{◌≡◌, ℕ, suc, zero, ◌<◌, ◌≤◌, ◌+◌, Option, Some, None, Result, Ok, Err, List, [], ◌∷◌, ◌++◌, length, refl, sym, ◌∙◌, ap, subst, arith, length-append}
+use Rattle.std.proofs.Common.{◌≡◌, ◌<◌, ◌≤◌, Option, Some, None, Result, Ok, Err, List, [], ◌∷◌, ◌++◌, length, refl, sym, ap, subst, arith, length-append}
 use Rattle.gx_tokens.specs.Toks.{Tok}
 use Rattle.gx_grammar.specs.Readers.{leaves}
 use Rattle.gx_grammar.specs.Reading.{Answer, goes, ends, refuses, finished, answered, step, reads}

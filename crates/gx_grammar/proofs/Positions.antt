@@ -1,6 +1,5 @@
 -- Tokens with their places, and without.
-use Rattle.std.proofs.Common.{◌≡◌, ℕ, zero, suc, ◌≤◌, ◌-◌, Option, Some, None, Result, Ok, Err, List, [], ◌∷◌, length, drop, refl, sym, ap, subst, ◌∙◌, arith}
-use Rattle.gx_tokens.specs.Toks.{Tok}
+use Rattle.std.proofs.Common.{◌≡◌, ℕ, zero, suc, ◌≤◌, ◌-◌, Option, List, [], ◌∷◌, length, drop, refl, sym, ap, subst, arith}
 use Rattle.gx_tokens.specs.declared.lexeme.Placed.{Placed}
 use Rattle.gx_grammar.specs.Grammar.{Spells}
 use Rattle.gx_grammar.specs.Halts.{toks_of}

@@ -1,8 +1,8 @@
 -- Readers that are put together from readers that read just the words of a language.
-use Rattle.std.proofs.Common.{◌≡◌, ℕ, zero, suc, ◌<◌, ◌≤◌, ◌+◌, ◌-◌, Bool, true, false, if◌then◌else◌, ◌||◌, ◌⊎◌, inl, inr, Option, Some, None, Result, Ok, Err, List, [], ◌∷◌, ◌++◌, length, take, drop, refl, sym, ◌∙◌, ap, subst, append_assoc, arith, length-append}
+use Rattle.std.proofs.Common.{◌≡◌, ℕ, zero, suc, ◌<◌, ◌≤◌, ◌+◌, ◌-◌, Bool, true, false, if◌then◌else◌, ◌||◌, inl, inr, Option, Some, None, Result, Ok, Err, List, [], ◌∷◌, ◌++◌, length, take, drop, refl, sym, ◌∙◌, ap, subst, append_assoc, arith, length-append}
 use Rattle.std.proofs.Math.Seq.{take-append_seam, drop-append_seam}
 use Rattle.std.proofs.lemmas.List.{append-nil}
-use Rattle.gx_grammar.specs.Readers.{◌>>=◌, made, one, one_of, seq, mapped, choose, many, repeated, One, Made, Then, Either, Many, none, more, Begun, Read, Halted, Tells, leaves, Ends, Keeps, Takes, Faithful}
+use Rattle.gx_grammar.specs.Readers.{◌>>=◌, made, one, one_of, seq, mapped, choose, many, repeated, One, Made, Then, Either, Many, none, more, Begun, Read, Tells, leaves, Ends, Keeps, Takes, Faithful}
 
 -- the value of an answer
 pub ok_same : {X Y : Type 0} {a b : X} → ◌≡◌ {A = Result X Y} (Ok a) (Ok b) → a ≡ b

@@ -1,12 +1,12 @@
 -- What is read is spelled, and what was read before a refused token can be completed.
-use Rattle.std.proofs.Common.{◌≡◌, ℕ, suc, zero, ◌<◌, ◌≤◌, ◌+◌, Bool, true, false, not, IsTrue, if◌then◌else◌, Option, Some, None, Result, Ok, Err, List, [], ◌∷◌, ◌++◌, refl, sym, ◌∙◌, ap, subst, append_assoc, arith, nat_le, bytes_eq}
+use Rattle.std.proofs.Common.{◌≡◌, ℕ, ◌≤◌, Bool, true, false, IsTrue, if◌then◌else◌, Option, Some, None, Result, Ok, Err, List, [], ◌∷◌, ◌++◌, refl, sym, ◌∙◌, ap, subst, append_assoc, arith, nat_le, bytes_eq}
 use Rattle.std.proofs.lemmas.Bool.{leb-true}
 use Rattle.std.proofs.lemmas.List.{append-nil}
 use Rattle.std.proofs.lemmas.Slice.Eq.{bytes_eq-Decides}
 use Rattle.gx_tokens.specs.Toks.{Tok, word, number, quoted, symbol}
-use Rattle.gx_grammar.specs.Operators.{level, left, right, outer, inner, operator, spelled, spelled_before, not_word}
-use Rattle.gx_grammar.specs.Grammar.{number_of, call_of, Spells, above, between, before, constant, quotation, column, call, group, SpellsArguments, none, some, SpellsFront, start, onward, is_name, fits}
-use Rattle.gx_grammar.specs.Readers.{Begun, Read, Halted, Tells}
+use Rattle.gx_grammar.specs.Operators.{level, left, operator, spelled, spelled_before, not_word}
+use Rattle.gx_grammar.specs.Grammar.{number_of, call_of, Spells, between, before, constant, quotation, column, call, group, none, some, SpellsFront, start, onward, is_name, fits}
+use Rattle.gx_grammar.specs.Readers.{Begun, Tells}
 use Rattle.gx_grammar.specs.Reading.{Answer, goes, ends, refuses, weight, need, joined, room, unwind, constant_word, is_dot, is_open, is_close, is_comma, is_minus, closing, parting, over, operating, after, settled, settles, having, single, begins, emptied, standing, negating, naming, dotting, least_before, needs, finished, answered, step, reads, expression}
 use Rattle.gx_grammar.proofs.Levels.{room-high, needs-high, lowered, name_of, operator_is, dot_is, open_is, close_is, comma_is, minus_is, constant_spells}
 use Rattle.gx_tokens.specs.declared.symbol.Symbol.TheVariants as symbols

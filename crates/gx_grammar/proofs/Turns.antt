@@ -1,5 +1,5 @@
 -- One turn of the loop over the tokens of an expression.
-use Rattle.std.proofs.Common.{◌≡◌, ℕ, ◌<◌, ◌+◌, Option, Some, None, Result, Ok, Err, List, [], ◌∷◌, length, refl, sym, ◌∙◌, ap, arith}
+use Rattle.std.proofs.Common.{◌≡◌, ℕ, ◌<◌, Some, None, Result, Ok, Err, List, [], ◌∷◌, length, refl, sym, arith}
 use Rattle.gx_tokens.specs.Toks.{Tok}
 use Rattle.gx_grammar.specs.Reading.{Answer, goes, ends, refuses, step, reads, advanced, turned, finished, answered}
 use Rattle.gx_grammar.specs.declared.tree.expr.Expr.{Expr}

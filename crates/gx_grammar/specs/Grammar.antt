@@ -1,5 +1,5 @@
 -- The grammar of expressions: which tokens spell which tree.
-use Rattle.std.specs.Prelude.{◌≡◌, ℕ, suc, ◌^◌, Bool, true, false, not, nat_lt, IsTrue, List, [], ◌∷◌, ◌++◌, codes, bytes_eq, pos}
+use Rattle.std.specs.Prelude.{ℕ, suc, Bool, true, false, not, nat_lt, IsTrue, List, [], ◌∷◌, ◌++◌, codes, bytes_eq, pos}
 use Rattle.gx_tokens.specs.Toks.{Tok, word, number, quoted, symbol}
 use Rattle.gx_grammar.specs.Operators.{level, left, right, outer, inner, spelled, spelled_before, not_word}
 use Rattle.gx_tokens.specs.declared.symbol.Symbol.TheVariants as symbols

@@ -1,6 +1,6 @@
 -- Readers of tokens, and what it means that one reads just the words of a language.
 -- A reader gives what it read with the tokens behind it, or the tokens from the refused one on.
-use Rattle.std.specs.Prelude.{◌≡◌, ℕ, zero, suc, Bool, true, false, if◌then◌else◌, ◌||◌, ◌⊎◌, Option, Some, None, Result, Ok, Err, List, [], ◌∷◌, ◌++◌, length}
+use Rattle.std.specs.Prelude.{◌≡◌, ℕ, zero, suc, Bool, false, if◌then◌else◌, ◌⊎◌, Option, Some, None, Result, Ok, Err, List, [], ◌∷◌, ◌++◌, length}
 
 abbrev pub Reader : Type 0 → Type 0 → Type 0
 Reader T A = List T → Result (A × List T) (List T)

@@ -6,4 +6,5 @@ pub mod ReaderLemmas
 pub mod SpacingLemmas
 pub mod SymbolLemmas
 pub mod TakenLemmas
+pub mod TokenLemmas
 pub mod WritingLemmas

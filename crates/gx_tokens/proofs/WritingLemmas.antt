@@ -1,5 +1,5 @@
 -- Pieces that are written one by one stand as they are spaced.
-use Rattle.std.proofs.Common.{◌≡◌, ℕ, Bool, true, false, ◌||◌, if◌then◌else◌, List, [], ◌∷◌, ◌++◌, refl, sym, ap, ◌∙◌, append_assoc}
+use Rattle.std.proofs.Common.{◌≡◌, ℕ, Bool, true, false, ◌||◌, if◌then◌else◌, List, [], ◌∷◌, ◌++◌, refl, sym, ◌∙◌, append_assoc}
 use Rattle.std.proofs.lemmas.List.{append-nil}
 use Rattle.gx_tokens.specs.Spacing.{Piece, token, sign, function, tok, text_of, between, spaced_on, follows}
 use Rattle.gx_tokens.specs.Toks.{Tok, word, number, quoted, symbol}

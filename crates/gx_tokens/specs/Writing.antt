@@ -1,7 +1,7 @@
 -- Lines of tokens that are written piece by piece.
 use Rattle.std.specs.Prelude.{◌≡◌, ℕ, ◌||◌, if◌then◌else◌, List, [], ◌∷◌, ◌++◌, codes, refl}
 use Rattle.gx_tokens.specs.Spacing.{Piece, token, sign, function, tok, text_of, follows, is_open, spaced}
-use Rattle.gx_tokens.specs.Toks.{Tok, word, number, quoted, symbol}
+use Rattle.gx_tokens.specs.Toks.{Tok, word, symbol}
 use Rattle.gx_tokens.specs.declared.symbol.Symbol.TheVariants as symbols
 use Rattle.gx_tokens.specs.declared.writer.Joint.{Joint}
 use Rattle.gx_tokens.specs.declared.writer.Joint.TheVariants.{Start, Close, Call, Apart}

@@ -1,5 +1,5 @@
 -- The tokens that are left read on to what all of them read.
-use Rattle.std.proofs.Common.{◌≡◌, [], length}
+use Rattle.std.proofs.Common.{◌≡◌, length}
 use Rattle.gx_grammar.specs.Halts.{toks_of}
 use Rattle.gx_grammar.specs.Reading.{reads, expression}
 use Rattle.gx_grammar.proofs.expression.Cursor.expression.Given as goal
