@@ -14,7 +14,9 @@ use std::alloc::Global;
 /// The tests of a subgraph, at least one of which is written.
 #[derive(Drop)]
 pub struct Tests {
+    /// The test of vertices.
     pub vertices: Option<Expr>,
+    /// The test of edges.
     pub edges: Option<Expr>,
 }
 
