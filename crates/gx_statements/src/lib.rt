@@ -20,6 +20,6 @@ mod signs;
 mod tables;
 mod words;
 
-pub use limit::{MOST_TOKENS, kept_len};
 pub use grammar_stop::GrammarStop;
+pub use limit::{MOST_TOKENS, kept_len};
 pub use read::read_script;
