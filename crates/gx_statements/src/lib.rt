@@ -9,6 +9,7 @@ mod cursor;
 mod entries;
 mod grammar_stop;
 mod heads;
+mod laws;
 mod limit;
 mod loads;
 mod maps;
@@ -21,5 +22,6 @@ mod tables;
 mod words;
 
 pub use grammar_stop::GrammarStop;
+pub use laws::scripts_are_told;
 pub use limit::{MOST_TOKENS, kept_len};
 pub use read::read_script;
