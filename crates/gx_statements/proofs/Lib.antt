@@ -1,4 +1,5 @@
 pub mod Forms
+pub mod LimitLemmas
 pub mod Loops
 pub mod Parts
 pub mod Refusals

@@ -30,3 +30,7 @@ abbrev pub IsScript : List Stmt → Result Script GrammarStop → Type 0
 IsScript s (Ok script) = script.statements ≡ s
 IsScript s (Err (stops.At n)) = ⊥
 IsScript s (Err stops.NoMemory) = Unit {0}
+
+-- tokens spell no more than one script
+abbrev pub SpellsOneScript : Type 0
+SpellsOneScript = (ts : List Tok) (s u : List Stmt) → SpellsScript ts s → SpellsScript ts u → s ≡ u

@@ -14,12 +14,12 @@ pub const MOST_TOKENS: usize = 2048;
 pub fn kept_len(tokens: &[Placed<'_>]) -> usize
     ensures { IsKept (toks_of tokens.now) result }
 {
-    let mut open = 0;
+    let mut open_len = 0;
     for (at, placed) in tokens.iter().enumerate() {
         if is_semicolon(placed.lexeme) {
-            open = 0;
-        } else if open < MOST_TOKENS {
-            open += 1;
+            open_len = 0;
+        } else if open_len < MOST_TOKENS {
+            open_len += 1;
         } else {
             return at;
         }
