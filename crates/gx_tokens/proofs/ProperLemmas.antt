@@ -12,7 +12,7 @@ use Rattle.std.proofs.lemmas.List.Folds.{length-prefix_len}
 use Rattle.std.proofs.lemmas.List.Sums.{prefix_len_passes, take_while-cons}
 use Rattle.gx_tokens.specs.declared.lexeme.End.{End}
 use Rattle.gx_tokens.specs.declared.lexeme.Placed.{Placed}
-use Rattle.gx_tokens.specs.declared.runs.TheConstants.{MOST_WORD_BYTES, MOST_TEXT_BYTES, MOST_NUMBER}
+use Rattle.gx_tokens.specs.Limits.{most_word_bytes, most_text_bytes, most_number}
 use Rattle.gx_tokens.specs.declared.symbol.Symbol.{Symbol}
 use Rattle.gx_tokens.specs.declared.syntax_kind.SyntaxKind.{SyntaxKind}
 use Rattle.gx_tokens.specs.declared.syntax_kind.SyntaxKind.TheVariants.{TextLong, NameLong, NumberLarge}
@@ -33,7 +33,7 @@ same_token n m t u is =
 letter_stands : (c : ℕ) → is_ascii_alphabetic c ≡ true → is_word_byte c ≡ true
 letter_stands c is = grind (arith, nat_tests)
 
-run-word : (c : ℕ) (cs : List ℕ) → is_ascii_alphabetic c ≡ true → prefix_len is_word_byte (c ∷ cs) ≤ MOST_WORD_BYTES → IsWord (take_while is_word_byte (c ∷ cs))
+run-word : (c : ℕ) (cs : List ℕ) → is_ascii_alphabetic c ≡ true → prefix_len is_word_byte (c ∷ cs) ≤ most_word_bytes → IsWord (take_while is_word_byte (c ∷ cs))
 run-word c cs letter few =
     let n = prefix_len is_word_byte (c ∷ cs) in
     let long : length (take_while is_word_byte (c ∷ cs)) ≡ n = length-prefix_len is_word_byte (c ∷ cs) in
@@ -57,20 +57,20 @@ word-proper : (c : ℕ) (cs : List ℕ) (n : ℕ) (t : Tok) → is_ascii_alphabe
 unfolding word_at
 word-proper c cs n t letter is =
     let size = prefix_len is_word_byte (c ∷ cs) in
-    let k = passed (nat_le size MOST_WORD_BYTES) size n (word (take_while is_word_byte (c ∷ cs))) t NameLong is in
+    let k = passed (nat_le size most_word_bytes) size n (word (take_while is_word_byte (c ∷ cs))) t NameLong is in
     subst IsProper k.1 (run-word c cs letter (leb-true _ _ k.0))
 
 number-proper : (text : List ℕ) (n : ℕ) (t : Tok) → number_at text ≡ Ok (n, t) → IsProper t
 unfolding number_at
 number-proper text n t is =
     let value = digits_value 10 (take_while is_ascii_digit text) in
-    let k = passed (nat_le value MOST_NUMBER) (prefix_len is_ascii_digit text) n (number value) t NumberLarge is in
+    let k = passed (nat_le value most_number) (prefix_len is_ascii_digit text) n (number value) t NumberLarge is in
     subst IsProper k.1 (leb-true _ _ k.0)
 
 limited-proper : (o : Option (ℕ × List ℕ)) (n : ℕ) (t : Tok) → limited o ≡ Ok (n, t) → IsProper t
 limited-proper None n t is = cc is
 limited-proper (Some q) n t is =
-    let k = passed (nat_le (length q.1) MOST_TEXT_BYTES) (q.0 + 2) n (quoted q.1) t TextLong is in
+    let k = passed (nat_le (length q.1) most_text_bytes) (q.0 + 2) n (quoted q.1) t TextLong is in
     subst IsProper k.1 (leb-true _ _ k.0)
 
 quoted-proper : (text : List ℕ) (n : ℕ) (t : Tok) → quoted_at text ≡ Ok (n, t) → IsProper t

@@ -16,7 +16,7 @@ use Rattle.gx_tokens.specs.declared.lexeme.Lexeme.{Lexeme}
 use Rattle.gx_tokens.specs.declared.lexeme.Lexeme.TheVariants as lexemes
 use Rattle.gx_tokens.specs.declared.quote.Extent.{Extent}
 use Rattle.gx_tokens.specs.declared.reader.Found.{Found}
-use Rattle.gx_tokens.specs.declared.runs.TheConstants.{MOST_WORD_BYTES, MOST_TEXT_BYTES, MOST_NUMBER}
+use Rattle.gx_tokens.specs.Limits.{most_word_bytes, most_text_bytes, most_number}
 use Rattle.gx_tokens.specs.declared.symbol.Symbol.{Symbol}
 use Rattle.gx_tokens.specs.declared.syntax_kind.SyntaxKind.{SyntaxKind}
 use Rattle.gx_tokens.specs.declared.syntax_kind.SyntaxKind.TheVariants.{TextOpen, TextLong, NameLong, NumberLarge}
@@ -83,20 +83,20 @@ found expected text slice len lexeme front read written = record {
   written = written;
 }
 
-pub word-found : (text : List ℕ) (w : Bor (List ℕ)) (len : ℕ) → len ≡ prefix_len is_word_byte text → len ≤ MOST_WORD_BYTES → IsFront text w.now len
+pub word-found : (text : List ℕ) (w : Bor (List ℕ)) (len : ℕ) → len ≡ prefix_len is_word_byte text → len ≤ most_word_bytes → IsFront text w.now len
     → IsFound (word_at text) text (record { text = w; lexeme = lexemes.Word w })
 unfolding word_at
 word-found text w len is few front =
-    let test : nat_le (prefix_len is_word_byte text) MOST_WORD_BYTES ≡ true = le-leb _ _ (omega arith) in
+    let test : nat_le (prefix_len is_word_byte text) most_word_bytes ≡ true = le-leb _ _ (omega arith) in
     let slice : w.now ≡ take len text = front.slice_is in
     found _ text w len (lexemes.Word w) front (rw (test, ← is, slice) refl) refl
 
-pub word-long : (text : List ℕ) → MOST_WORD_BYTES < prefix_len is_word_byte text → word_at text ≡ Err NameLong
+pub word-long : (text : List ℕ) → most_word_bytes < prefix_len is_word_byte text → word_at text ≡ Err NameLong
 unfolding word_at
 word-long text long = rw (lt-leb _ _ long) refl
 
 number_at-is : (text run : List ℕ) (len : ℕ) → len ≡ prefix_len is_ascii_digit text → run ≡ take len text
-    → number_at text ≡ (if nat_le (digits_value 10 run) MOST_NUMBER then Ok (len, number (digits_value 10 run)) else Err NumberLarge)
+    → number_at text ≡ (if nat_le (digits_value 10 run) most_number then Ok (len, number (digits_value 10 run)) else Err NumberLarge)
 unfolding number_at
 number_at-is text run len is slice = rw (slice, is) refl
 
@@ -109,15 +109,15 @@ left_out true v e = cc e
 left_out false v e = refl
 
 pub number-found : (text : List ℕ) (w : Bor (List ℕ)) (len value : ℕ) → len ≡ prefix_len is_ascii_digit text
-    → Some value ≡ (if nat_le (digits_value 10 w.now) MOST_NUMBER then Some (digits_value 10 w.now) else None) → IsFront text w.now len
+    → Some value ≡ (if nat_le (digits_value 10 w.now) most_number then Some (digits_value 10 w.now) else None) → IsFront text w.now len
     → IsFound (number_at text) text (record { text = w; lexeme = lexemes.Number value })
 number-found text w len value is read front =
-    let k = kept (nat_le (digits_value 10 w.now) MOST_NUMBER) (digits_value 10 w.now) value read in
+    let k = kept (nat_le (digits_value 10 w.now) most_number) (digits_value 10 w.now) value read in
     found _ text w len (lexemes.Number value) front (rw (number_at-is text w.now len is front.slice_is, k.0, k.1) refl) k.1
 
 pub number-large : (text : List ℕ) (w : List ℕ) (len : ℕ) → len ≡ prefix_len is_ascii_digit text → w ≡ take len text
-    → None ≡ (if nat_le (digits_value 10 w) MOST_NUMBER then Some (digits_value 10 w) else None) → number_at text ≡ Err NumberLarge
-number-large text w len is slice read = rw (number_at-is text w len is slice, left_out (nat_le (digits_value 10 w) MOST_NUMBER) (digits_value 10 w) read) refl
+    → None ≡ (if nat_le (digits_value 10 w) most_number then Some (digits_value 10 w) else None) → number_at text ≡ Err NumberLarge
+number-large text w len is slice read = rw (number_at-is text w len is slice, left_out (nat_le (digits_value 10 w) most_number) (digits_value 10 w) read) refl
 
 -- the longest run of digits is a numeral
 run-digits : (text : List ℕ) → all_ascii_digits (take_while is_ascii_digit text) ≡ true
@@ -138,10 +138,10 @@ digits = numerals_by_value (λ ds. all_ascii_digits ds ≡ true) tells_all_ascii
 
 -- digits that are no number of 64 bits are none of 63
 pub no_value : {E : Type 0} (ds : List ℕ) (e : E) → ParsesUnsigned 64 10 ds (Err e) → all_ascii_digits ds ≡ true → 0 < length ds
-    → None ≡ (if nat_le (digits_value 10 ds) MOST_NUMBER then Some (digits_value 10 ds) else None)
-no_value ds e h all some = go (nat_le (digits_value 10 ds) MOST_NUMBER) refl (parse_digits digits 64 ds (Err e) h all)
+    → None ≡ (if nat_le (digits_value 10 ds) most_number then Some (digits_value 10 ds) else None)
+no_value ds e h all some = go (nat_le (digits_value 10 ds) most_number) refl (parse_digits digits 64 ds (Err e) h all)
   where
-    go : (b : Bool) → nat_le (digits_value 10 ds) MOST_NUMBER ≡ b → ¬ ((0 < length ds) × (digits_value 10 ds < 2 ^ 64)) → None ≡ (if b then Some (digits_value 10 ds) else None)
+    go : (b : Bool) → nat_le (digits_value 10 ds) most_number ≡ b → ¬ ((0 < length ds) × (digits_value 10 ds < 2 ^ 64)) → None ≡ (if b then Some (digits_value 10 ds) else None)
     go true few large = absurd (large (some, omega (arith, leb-true _ _ few)))
     go false few large = refl
 
@@ -179,14 +179,14 @@ inside-slice text len =
     let two : len + 2 ≡ 1 + (len + 1) = omega arith in
     ap (λ k. take len (drop 1 (take k text))) two ∙ ap (take len) (drop-take 1 (len + 1) text) ∙ take-take len (len + 1) (drop 1 text) (omega arith)
 
-pub quoted-found : (text : List ℕ) (at : ℕ) (w inside : Bor (List ℕ)) (e : Extent) → Some e ≡ extent_of (quoted_from false (drop (at + 1) text)) → e.value_len ≤ MOST_TEXT_BYTES
+pub quoted-found : (text : List ℕ) (at : ℕ) (w inside : Bor (List ℕ)) (e : Extent) → Some e ≡ extent_of (quoted_from false (drop (at + 1) text)) → e.value_len ≤ most_text_bytes
     → IsFront (drop at text) w.now (e.len + 2) → inside.now ≡ take (length w.now - 2) (drop 1 w.now) → w.now ≡ 34 ∷ inside.now ++ 34 ∷ []
     → IsFound (quoted_at (drop at text)) (drop at text) (record { text = w; lexeme = lexemes.Quoted inside })
 unfolding quoted_at unescaped
 quoted-found text at w inside e is few front slice marked =
     let v = extent_is _ e (rw (behind_mark text at) at is) in
     let closed = quoted_from-closed false (drop 1 (drop at text)) e.len v.0 v.1 in
-    let test : nat_le (length v.0) MOST_TEXT_BYTES ≡ true = le-leb _ _ (omega (arith, v.2)) in
+    let test : nat_le (length v.0) most_text_bytes ≡ true = le-leb _ _ (omega (arith, v.2)) in
     let short : length w.now - 2 ≡ e.len = omega (arith, front.len_is) in
     let inner : inside.now ≡ take e.len (drop 1 (drop at text)) =
     slice ∙ ap (λ k. take k (drop 1 w.now)) short ∙ ap (λ l. take e.len (drop 1 l)) front.slice_is ∙ inside-slice (drop at text) e.len in
@@ -196,11 +196,11 @@ pub quoted-open : (text : List ℕ) (at : ℕ) → None ≡ extent_of (quoted_fr
 unfolding quoted_at
 quoted-open text at is = rw (no_extent _ (rw (behind_mark text at) at is)) refl
 
-pub quoted-long : (text : List ℕ) (at : ℕ) (e : Extent) → Some e ≡ extent_of (quoted_from false (drop (at + 1) text)) → MOST_TEXT_BYTES < e.value_len → quoted_at (drop at text) ≡ Err TextLong
+pub quoted-long : (text : List ℕ) (at : ℕ) (e : Extent) → Some e ≡ extent_of (quoted_from false (drop (at + 1) text)) → most_text_bytes < e.value_len → quoted_at (drop at text) ≡ Err TextLong
 unfolding quoted_at
 quoted-long text at e is long =
     let v = extent_is _ e (rw (behind_mark text at) at is) in
-    let test : nat_le (length v.0) MOST_TEXT_BYTES ≡ false = lt-leb _ _ (omega (arith, v.2)) in
+    let test : nat_le (length v.0) most_text_bytes ≡ false = lt-leb _ _ (omega (arith, v.2)) in
     rw (v.1, test) refl
 
 -- a slice that was cut is the front of the text from there on

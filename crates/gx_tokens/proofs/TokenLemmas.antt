@@ -12,7 +12,7 @@ use Rattle.std.proofs.lemmas.List.Sums.{list_all-from_AllPass}
 use Rattle.std.proofs.lemmas.Fmt.{digits_decimal, digits_value-decimal, decimal_nonempty}
 use Rattle.std.proofs.lemmas.Str.Parse.{IsNumeralModel, numerals_by_value, tells_all_ascii_digits}
 use Rattle.std.proofs.Math.Seq.{take-append_seam}
-use Rattle.gx_tokens.specs.declared.runs.TheConstants.{MOST_WORD_BYTES, MOST_TEXT_BYTES, MOST_NUMBER}
+use Rattle.gx_tokens.specs.Limits.{most_word_bytes, most_text_bytes, most_number}
 use Rattle.gx_tokens.specs.declared.symbol.Symbol.{Symbol}
 use Rattle.gx_tokens.specs.declared.symbol.Symbol.TheVariants as symbols
 use Rattle.gx_tokens.specs.Toks.{Tok, word, number, quoted, symbol}
@@ -76,7 +76,7 @@ word-begins (c ∷ cs) rest p s =
     let letter : is_ascii_alphabetic c ≡ true = p.begins in
     let all : list_all is_word_byte (c ∷ cs) ≡ true = list_all-from_AllPass is_word_byte (c ∷ cs) p.bytes in
     let kinds = letter-kinds c letter in
-    let few : nat_le (length (c ∷ cs)) MOST_WORD_BYTES ≡ true = le-leb _ _ p.few in
+    let few : nat_le (length (c ∷ cs)) most_word_bytes ≡ true = le-leb _ _ p.few in
     record {
       no_gap = rw (kinds.0, kinds.1) refl;
       read = rw (letter, run-take is_word_byte (c ∷ cs) rest all s, run-len is_word_byte (c ∷ cs) rest all s, few) refl;
@@ -95,13 +95,13 @@ pub first_of : (a b : Bool) → (a && b) ≡ true → a ≡ true
 first_of true b h = refl
 first_of false b h = cc
 
-number-read : (ds rest : List ℕ) (n : ℕ) → list_all is_ascii_digit ds ≡ true → digits_value 10 ds ≡ n → n ≤ MOST_NUMBER → Stops is_ascii_digit rest → number_at (ds ++ rest) ≡ Ok (length ds, number n)
+number-read : (ds rest : List ℕ) (n : ℕ) → list_all is_ascii_digit ds ≡ true → digits_value 10 ds ≡ n → n ≤ most_number → Stops is_ascii_digit rest → number_at (ds ++ rest) ≡ Ok (length ds, number n)
 unfolding number_at
 number-read ds rest n a v m s =
-    let few : nat_le n MOST_NUMBER ≡ true = le-leb _ _ m in
+    let few : nat_le n most_number ≡ true = le-leb _ _ m in
     rw (run-take is_ascii_digit ds rest a s, run-len is_ascii_digit ds rest a s, v, few) refl
 
-digits-begin : (ds rest : List ℕ) (n : ℕ) → 0 < length ds → all_ascii_digits ds ≡ true → digits_value 10 ds ≡ n → n ≤ MOST_NUMBER → Stops is_ascii_digit rest → Begins (number n) (ds ++ rest) (length ds)
+digits-begin : (ds rest : List ℕ) (n : ℕ) → 0 < length ds → all_ascii_digits ds ≡ true → digits_value 10 ds ≡ n → n ≤ most_number → Stops is_ascii_digit rest → Begins (number n) (ds ++ rest) (length ds)
 unfolding gap_at token_at
 digits-begin [] rest n some a v m s = absurd (omega arith)
 digits-begin (c ∷ cs) rest n some a v m s =
@@ -114,7 +114,7 @@ digits-begin (c ∷ cs) rest n some a v m s =
       some = omega arith;
     }
 
-number-begins : (n : ℕ) (rest : List ℕ) → n ≤ MOST_NUMBER → Stops is_ascii_digit rest → Begins (number n) (decimal n ++ rest) (length (decimal n))
+number-begins : (n : ℕ) (rest : List ℕ) → n ≤ most_number → Stops is_ascii_digit rest → Begins (number n) (decimal n ++ rest) (length (decimal n))
 number-begins n rest m s =
     let small : n < 2 ^ 64 = omega arith in
     digits-begin (decimal n) rest n (decimal_nonempty n small) (digits_decimal own n small) (digits_value-decimal own n small) m s
@@ -151,10 +151,10 @@ escapes-read (c ∷ cs) rest =
     let bytes : past (escape c) (length (escapes cs)) ≡ length (escapes (c ∷ cs)) = omega (arith, past-is (escape c) (length (escapes cs)), length-append (escape c) (escapes cs)) in
     rw (append_assoc (escape c) (escapes cs) (34 ∷ rest), escape-read c (escapes cs ++ 34 ∷ rest) (length (escapes cs)) cs (escapes-read cs rest), bytes) refl
 
-quoted-begins : (s rest : List ℕ) → length s ≤ MOST_TEXT_BYTES → Begins (quoted s) ((34 ∷ escapes s ++ 34 ∷ []) ++ rest) (length (34 ∷ escapes s ++ 34 ∷ []))
+quoted-begins : (s rest : List ℕ) → length s ≤ most_text_bytes → Begins (quoted s) ((34 ∷ escapes s ++ 34 ∷ []) ++ rest) (length (34 ∷ escapes s ++ 34 ∷ []))
 unfolding gap_at token_at quoted_at
 quoted-begins s rest m =
-    let few : nat_le (length s) MOST_TEXT_BYTES ≡ true = le-leb _ _ m in
+    let few : nat_le (length s) most_text_bytes ≡ true = le-leb _ _ m in
     let bytes : length (34 ∷ escapes s ++ 34 ∷ []) ≡ length (escapes s) + 2 = omega (arith, length-append (escapes s) (34 ∷ [])) in
     record {
       no_gap = refl;

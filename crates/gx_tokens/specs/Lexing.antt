@@ -3,7 +3,7 @@ use Rattle.std.specs.Prelude.{◌≡◌, ℕ, zero, suc, ◌+◌, ◌-◌, nat_l
 use Rattle.std.specs.Char.{is_ascii_alphabetic, is_ascii_alphanumeric, is_ascii_digit}
 use Rattle.std.specs.List.{prefix_len}
 use Rattle.std.specs.Str.Parse.{digits_value}
-use Rattle.gx_tokens.specs.declared.runs.TheConstants.{MOST_WORD_BYTES, MOST_TEXT_BYTES, MOST_NUMBER}
+use Rattle.gx_tokens.specs.Limits.{most_word_bytes, most_text_bytes, most_number}
 use Rattle.gx_tokens.specs.declared.symbol.Symbol.{Symbol}
 use Rattle.gx_tokens.specs.declared.symbol.Symbol.TheVariants as symbols
 use Rattle.gx_tokens.specs.declared.syntax_kind.SyntaxKind.{SyntaxKind}
@@ -35,21 +35,21 @@ gap_at (c ∷ cs) =
 -- the word that a text begins with, and its bytes
 unfoldable pub word_at : List ℕ → Result (ℕ × Tok) SyntaxKind
 word_at text =
-    if nat_le (prefix_len is_word_byte text) MOST_WORD_BYTES
+    if nat_le (prefix_len is_word_byte text) most_word_bytes
     then Ok (prefix_len is_word_byte text, word (take_while is_word_byte text))
     else Err NameLong
 
 -- the number that a text begins with, and its bytes
 unfoldable pub number_at : List ℕ → Result (ℕ × Tok) SyntaxKind
 number_at text =
-    if nat_le (digits_value 10 (take_while is_ascii_digit text)) MOST_NUMBER
+    if nat_le (digits_value 10 (take_while is_ascii_digit text)) most_number
     then Ok (prefix_len is_ascii_digit text, number (digits_value 10 (take_while is_ascii_digit text)))
     else Err NumberLarge
 
 -- a quoted text, from what stands between its quotation marks: its bytes with the marks
 abbrev pub limited : Option (ℕ × List ℕ) → Result (ℕ × Tok) SyntaxKind
 limited None = Err TextOpen
-limited (Some q) = if nat_le (length q.1) MOST_TEXT_BYTES then Ok (q.0 + 2, quoted q.1) else Err TextLong
+limited (Some q) = if nat_le (length q.1) most_text_bytes then Ok (q.0 + 2, quoted q.1) else Err TextLong
 
 -- the quoted text that a text begins with, and its bytes
 unfoldable pub quoted_at : List ℕ → Result (ℕ × Tok) SyntaxKind

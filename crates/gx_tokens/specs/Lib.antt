@@ -1,5 +1,6 @@
 pub mod Left
 pub mod Lexing
+pub mod Limits
 pub mod Proper
 pub mod Quotes
 pub mod Spacing

@@ -1,7 +1,7 @@
 -- The tokens that a text may have.
 use Rattle.std.specs.Prelude.{◌≡◌, ℕ, ◌≤◌, true, List, length, slice_index, All}
 use Rattle.std.specs.Char.{is_ascii_alphabetic}
-use Rattle.gx_tokens.specs.declared.runs.TheConstants.{MOST_WORD_BYTES, MOST_TEXT_BYTES, MOST_NUMBER}
+use Rattle.gx_tokens.specs.Limits.{most_word_bytes, most_text_bytes, most_number}
 use Rattle.gx_tokens.specs.Lexing.{is_word_byte}
 use Rattle.gx_tokens.specs.Toks.{Tok, word, number, quoted, symbol}
 
@@ -9,11 +9,11 @@ use Rattle.gx_tokens.specs.Toks.{Tok, word, number, quoted, symbol}
 pub record IsWord (text : List ℕ) : Type 0 where
   pub begins : is_ascii_alphabetic (slice_index text 0) ≡ true
   pub bytes : All (λ c. is_word_byte c ≡ true) text
-  pub few : length text ≤ MOST_WORD_BYTES
+  pub few : length text ≤ most_word_bytes
 
 -- a word is one, a number is not too large, and a quoted text is not too long
 abbrev pub IsProper : Tok → Type 0
 IsProper (word text) = IsWord text
-IsProper (number n) = n ≤ MOST_NUMBER
-IsProper (quoted value) = length value ≤ MOST_TEXT_BYTES
+IsProper (number n) = n ≤ most_number
+IsProper (quoted value) = length value ≤ most_text_bytes
 IsProper (symbol s) = Unit {0}
