@@ -6,15 +6,14 @@ use Rattle.gx_tokens.specs.TokenTexts.{tok_of}
 use Rattle.gx_tokens.specs.declared.lexeme.Placed.{Placed}
 use Rattle.gx_grammar.specs.Halts.{toks_of}
 use Rattle.gx_grammar.proofs.Positions.{toks_length}
-use Rattle.gx_statements.specs.Limits.{counted, open_len, IsOneTooMany, IsShort, Overflows, IsKept}
+use Rattle.gx_statements.specs.Limits.{counted, open_len, IsOneTooMany, IsShort, Overflows, IsKept, most_tokens}
 use Rattle.gx_statements.specs.Marks.{is_semicolon}
-use Rattle.gx_statements.specs.declared.limit.TheConstants.{MOST_TOKENS}
 
 -- of the first n tokens none is one too many, and so many of them stand behind the last `;`
 pub record IsCounted (ts : List Tok) (n len : ℕ) : Type 0 where
   pub short : IsShort (take n ts)
   pub counts : open_len 0 (take n ts) ≡ len
-  pub few : len ≤ MOST_TOKENS
+  pub few : len ≤ most_tokens
 
 open_len-more : (n : ℕ) (ts : List Tok) (t : Tok) → open_len n (ts ++ t ∷ []) ≡ counted (is_semicolon t) (open_len n ts)
 open_len-more n [] t = refl
@@ -67,7 +66,7 @@ module _ (tokens : List Placed) (n len : ℕ) (d : Placed) (b : Bool) (k : IsCou
   short-next fits = subst IsShort (sym (take-next tokens n d h)) (short-more (take n (toks_of tokens)) (tok_of (get_or tokens n d).lexeme) k.short fits)
 
   -- it counts
-  pub counted_more : (total : ℕ) → b ≡ false → len < MOST_TOKENS → total ≡ len + 1 → IsCounted (toks_of tokens) (n + 1) total
+  pub counted_more : (total : ℕ) → b ≡ false → len < most_tokens → total ≡ len + 1 → IsCounted (toks_of tokens) (n + 1) total
   counted_more total other few e = record {
     short = short-next (λ m. omega (arith, m.many, k.counts));
     counts = counts-next ∙ rw other (omega arith);
@@ -83,7 +82,7 @@ module _ (tokens : List Placed) (n len : ℕ) (d : Placed) (b : Bool) (k : IsCou
   }
 
   -- it is the first that is one too many
-  pub kept_before : b ≡ false → MOST_TOKENS ≤ len → IsKept (toks_of tokens) n
+  pub kept_before : b ≡ false → most_tokens ≤ len → IsKept (toks_of tokens) n
   kept_before other many = record {
     within = omega (arith, toks_length tokens);
     short = k.short;

@@ -1,9 +1,11 @@
 -- How many tokens a statement may have, its `;` left aside.
-use Rattle.std.specs.Prelude.{◌≡◌, ℕ, suc, ◌≤◌, Bool, true, false, List, [], ◌∷◌, ◌++◌, length, take, drop, codes}
-use Rattle.gx_tokens.specs.Toks.{Tok, word, symbol}
-use Rattle.gx_tokens.specs.declared.symbol.Symbol.TheVariants as symbols
+use Rattle.std.specs.Prelude.{◌≡◌, ℕ, suc, ◌≤◌, Bool, true, false, List, [], ◌∷◌, ◌++◌, length, take, drop}
+use Rattle.gx_tokens.specs.Toks.{Tok}
 use Rattle.gx_statements.specs.Marks.{is_semicolon}
-use Rattle.gx_statements.specs.declared.limit.TheConstants.{MOST_TOKENS}
+
+-- the most tokens of a statement
+abbrev pub most_tokens : ℕ
+most_tokens = 2048
 
 -- the tokens of a statement, of which there are n, and one more: a `;` begins the next statement
 abbrev pub counted : Bool → ℕ → ℕ
@@ -18,7 +20,7 @@ open_len n (t ∷ ts) = open_len (counted (is_semicolon t) n) ts
 -- behind these tokens, this one is one too many for its statement
 pub record IsOneTooMany (front : List Tok) (t : Tok) : Type 0 where
   pub counts : is_semicolon t ≡ false
-  pub many : MOST_TOKENS ≤ open_len 0 front
+  pub many : most_tokens ≤ open_len 0 front
 
 -- no token is one too many
 abbrev pub IsShort : List Tok → Type 0
