@@ -103,7 +103,7 @@ impl Entry for NamedConst {
 
 /// How a constant begins.
 #[derive(Drop)]
-pub(crate) enum ConstHead {
+pub enum ConstHead {
     /// It is whole.
     Whole(Const),
     /// A number follows.

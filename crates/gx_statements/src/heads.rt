@@ -5,7 +5,7 @@ ghost use Rattle.gx_statements.specs.Forms as forms;
 
 /// What a statement is, by the word that it begins with.
 #[derive(Clone, Copy)]
-pub(crate) enum Head {
+pub enum Head {
     /// `vertices`
     Vertices,
     /// `edges`
@@ -68,7 +68,7 @@ pub(crate) enum Head {
 
 /// What is printed.
 #[derive(Clone, Copy)]
-pub(crate) enum Printed {
+pub enum Printed {
     /// `vertices`
     Vertices,
     /// `edges`
@@ -81,7 +81,7 @@ pub(crate) enum Printed {
 
 /// What is counted.
 #[derive(Clone, Copy)]
-pub(crate) enum Counted {
+pub enum Counted {
     /// `vertices`
     Vertices,
     /// `edges`

@@ -20,6 +20,10 @@ mod signs;
 mod tables;
 mod words;
 
-pub use limit::{MOST_TOKENS, kept_len};
+pub use entries::ConstHead;
 pub use grammar_stop::GrammarStop;
+pub use heads::{Counted, Head, Printed};
+pub use limit::{MOST_TOKENS, kept_len};
 pub use read::read_script;
+pub use sends::Tests;
+pub use signs::Sign;

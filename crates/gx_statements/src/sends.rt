@@ -13,9 +13,9 @@ use std::alloc::Global;
 
 /// The tests of a subgraph, at least one of which is written.
 #[derive(Drop)]
-pub(crate) struct Tests {
-    pub(crate) vertices: Option<Expr>,
-    pub(crate) edges: Option<Expr>,
+pub struct Tests {
+    pub vertices: Option<Expr>,
+    pub edges: Option<Expr>,
 }
 
 impl<'a> Cursor<'a> {

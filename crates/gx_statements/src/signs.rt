@@ -9,7 +9,7 @@ use gx_tokens::{Lexeme, Symbol};
 
 /// A symbol of a statement.
 #[derive(Clone, Copy)]
-pub(crate) enum Sign {
+pub enum Sign {
     /// `(`
     Open,
     /// `)`
