@@ -1,1 +1,9 @@
+pub mod ListedLemmas
+pub mod ShortLemmas
+pub mod ShownEntries
+pub mod ShownForms
+pub mod ShownLanguages
 pub mod ShownLemmas
+pub mod ShownParts
+pub mod ShownScripts
+pub mod ShownWords

@@ -1,12 +1,13 @@
 -- What is shown of an expression spells it, with the fewest tokens.
-use Rattle.std.proofs.Common.{◌≡◌, ℕ, ◌≤◌, ◌+◌, Bool, true, false, if◌then◌else◌, List, [], ◌∷◌, ◌++◌, length, map, refl, ◌∙◌, ap, append_assoc, length-append, arith, nat_le, pos, codes}
+use Rattle.std.proofs.Common.{◌≡◌, ℕ, ◌≤◌, ◌+◌, Bool, true, false, if◌then◌else◌, List, [], ◌∷◌, ◌++◌, length, map, refl, ◌∙◌, ap, length-append, arith, nat_le, pos, codes}
 use Rattle.std.proofs.lemmas.Bool.{leb-true, le-leb}
-use Rattle.std.proofs.lemmas.List.{append-nil, map-append}
+use Rattle.std.proofs.lemmas.List.{map-append}
 use Rattle.gx_tokens.specs.Toks.{Tok, word, number, quoted, symbol}
 use Rattle.gx_grammar.specs.Operators.{level, left, right, outer, inner, spelled, spelled_before}
 use Rattle.gx_grammar.specs.Grammar.{number_of, quoted_of, truth_of, matched_of, column_of, call_of, unary_of, binary_of, Spells, above, between, before, constant, quotation, yes, no, matching, column, call, group, SpellsArguments, none, some, SpellsFront, start, onward}
 use Rattle.gx_show.specs.Shown.{piece_before, shown_layer, pieces, shown, ShowsWhatIsSpelled, ShowsFewest, ShowsProper}
 use Rattle.gx_show.specs.Shown as p
+use Rattle.gx_show.proofs.ListedLemmas.{listed, fronted, enclosed-tok, listed-map, fronted-last, listed-last}
 use Rattle.gx_tokens.specs.Spacing.{Piece, token, tok, AreProper, AreProperToks}
 use Rattle.gx_grammar.proofs.Levels.{left-high, right-high, inner-high, lowered}
 use Rattle.gx_tokens.specs.declared.symbol.Symbol.TheVariants as symbols
@@ -23,34 +24,12 @@ use Rattle.gx_grammar.specs.declared.tree.expr.Unary.TheVariants as unary
 abbrev pub grouped : ℕ → ℕ → List Tok → List Tok
 grouped l m ts = if nat_le l m then ts else symbol symbols.Open ∷ ts ++ symbol symbols.Close ∷ []
 
-abbrev pub listed_on : List (ℕ → List Tok) → List Tok
-listed_on [] = []
-listed_on (x ∷ xs) = symbol symbols.Comma ∷ x 1 ++ listed_on xs
-
-abbrev pub listed : List (ℕ → List Tok) → List Tok
-listed [] = []
-listed (x ∷ xs) = x 1 ++ listed_on xs
-
-abbrev pub part : Expr → ℕ → List Tok
-part x k = shown k x
-
-abbrev pub each : List Expr → List (ℕ → List Tok)
-each xs = map part xs
-
 grouped-tok : (l m : ℕ) (ps : List Piece) → map tok (p.grouped l m ps) ≡ grouped l m (map tok ps)
 grouped-tok l m ps = go (nat_le l m)
   where
     go : (b : Bool) → map tok (if b then ps else token (symbol symbols.Open) ∷ ps ++ token (symbol symbols.Close) ∷ []) ≡ (if b then map tok ps else symbol symbols.Open ∷ map tok ps ++ symbol symbols.Close ∷ [])
     go true = refl
     go false = ap (λ l. symbol symbols.Open ∷ l) (map-append tok ps (token (symbol symbols.Close) ∷ []))
-
-listed_on-tok : (xs : List Expr) → map tok (p.listed_on (map (fold-Expr (ℕ → List Piece) shown_layer) xs)) ≡ listed_on (each xs)
-listed_on-tok [] = refl
-listed_on-tok (x ∷ xs) = ap (λ l. symbol symbols.Comma ∷ l) (map-append tok (pieces 1 x) (p.listed_on (map (fold-Expr (ℕ → List Piece) shown_layer) xs)) ∙ ap (λ l. shown 1 x ++ l) (listed_on-tok xs))
-
-listed-tok : (xs : List Expr) → map tok (p.listed (map (fold-Expr (ℕ → List Piece) shown_layer) xs)) ≡ listed (each xs)
-listed-tok [] = refl
-listed-tok (x ∷ xs) = map-append tok (pieces 1 x) (p.listed_on (map (fold-Expr (ℕ → List Piece) shown_layer) xs)) ∙ ap (λ l. shown 1 x ++ l) (listed_on-tok xs)
 
 -- one layer of what is shown
 at : (k : ℕ) (x : Expr-F Expr) → pieces k (roll-Expr x) ≡ shown_layer (map-Expr Expr (ℕ → List Piece) (fold-Expr (ℕ → List Piece) shown_layer) x) k
@@ -74,10 +53,12 @@ shown-matched k = ap (map tok) (at k layer.Matched)
 pub shown-column : (k : ℕ) (side name : List ℕ) → shown k (column_of side name) ≡ word side ∷ symbol symbols.Dot ∷ word name ∷ []
 shown-column k side name = ap (map tok) (at k (layer.Column side name))
 
-pub shown-call : (k : ℕ) (name : List ℕ) (xs : List Expr) → shown k (call_of name xs) ≡ word name ∷ symbol symbols.Open ∷ listed (each xs) ++ symbol symbols.Close ∷ []
+pub shown-call : (k : ℕ) (name : List ℕ) (xs : List Expr) → shown k (call_of name xs) ≡ word name ∷ symbol symbols.Open ∷ listed (shown 1) xs ++ symbol symbols.Close ∷ []
 shown-call k name xs =
+    let one : (ℕ → List Piece) → List Piece = λ x. x 1 in
+    let part : Expr → ℕ → List Piece = fold-Expr (ℕ → List Piece) shown_layer in
     ap (map tok) (at k (layer.Call name xs))
-    ∙ ap (λ l. word name ∷ symbol symbols.Open ∷ l) (map-append tok (p.listed (map (fold-Expr (ℕ → List Piece) shown_layer) xs)) (token (symbol symbols.Close) ∷ []) ∙ ap (λ l. l ++ symbol symbols.Close ∷ []) (listed-tok xs))
+    ∙ ap (λ l. word name ∷ l) (enclosed-tok one (map part xs) ∙ ap (λ l. symbol symbols.Open ∷ l ++ symbol symbols.Close ∷ []) (listed-map (λ x. map tok (one x)) part xs))
 
 before-tok : (o : Unary) → tok (piece_before o) ≡ spelled_before o
 before-tok unary.Not = refl
@@ -91,27 +72,6 @@ pub shown-between : (k : ℕ) (o : Binary) (a b : Expr) → shown k (binary_of o
 shown-between k o a b =
     ap (map tok) (at k (layer.Binary o a b)) ∙ grouped-tok k (level o) (pieces (left o) a ++ token (spelled o) ∷ pieces (right o) b)
     ∙ ap (grouped k (level o)) (map-append tok (pieces (left o) a) (token (spelled o) ∷ pieces (right o) b))
-
--- arguments, each with a comma behind it
-abbrev fronted : List (ℕ → List Tok) → List Tok
-fronted [] = []
-fronted (x ∷ xs) = x 1 ++ symbol symbols.Comma ∷ fronted xs
-
-fronted-more : (xs : List (ℕ → List Tok)) (x : ℕ → List Tok) → fronted (xs ++ x ∷ []) ≡ fronted xs ++ x 1 ++ symbol symbols.Comma ∷ []
-fronted-more [] x = refl
-fronted-more (y ∷ ys) x = ap (λ l. y 1 ++ symbol symbols.Comma ∷ l) (fronted-more ys x) ∙ simp append_assoc
-
-listed_on-last : (xs : List (ℕ → List Tok)) (x : ℕ → List Tok) → listed_on (xs ++ x ∷ []) ≡ symbol symbols.Comma ∷ fronted xs ++ x 1
-listed_on-last [] x = rw append-nil refl
-listed_on-last (y ∷ ys) x = rw (append_assoc, listed_on-last ys x) refl
-
-listed-last : (xs : List (ℕ → List Tok)) (x : ℕ → List Tok) → listed (xs ++ x ∷ []) ≡ fronted xs ++ x 1
-listed-last [] x = append-nil (x 1)
-listed-last (y ∷ ys) x = rw (append_assoc, listed_on-last ys x) refl
-
-each-more : (xs : List Expr) (x : Expr) → each (xs ++ x ∷ []) ≡ each xs ++ part x ∷ []
-each-more [] x = refl
-each-more (y ∷ ys) x = ap (λ l. part y ∷ l) (each-more ys x)
 
 -- parentheses where they are needed
 grouped-spells : (k m : ℕ) (ts : List Tok) (x : Expr) → k ≤ 8 → 1 ≤ m → Spells m ts x → Spells k (grouped k m ts) x
@@ -145,13 +105,13 @@ mutual
   shown-spells (call {xs} name p d) k h = rw (shown-call k name xs) (lowered k 8 h (call name p (listed-spells d)))
   shown-spells (group d) k h = shown-spells d k h
 
-  listed-spells : {ts : List Tok} {xs : List Expr} → SpellsArguments ts xs → SpellsArguments (listed (each xs)) xs
+  listed-spells : {ts : List Tok} {xs : List Expr} → SpellsArguments ts xs → SpellsArguments (listed (shown 1) xs) xs
   listed-spells none = none
-  listed-spells (some {xs} {x} f d) = rw (each-more xs x, listed-last (each xs) (part x)) (some (fronted-spells f) (shown-spells d 1 (omega arith)))
+  listed-spells (some {xs} {x} f d) = rw (listed-last (shown 1) xs x) (some (fronted-spells f) (shown-spells d 1 (omega arith)))
 
-  fronted-spells : {ts : List Tok} {xs : List Expr} → SpellsFront ts xs → SpellsFront (fronted (each xs)) xs
+  fronted-spells : {ts : List Tok} {xs : List Expr} → SpellsFront ts xs → SpellsFront (fronted (shown 1) xs) xs
   fronted-spells start = start
-  fronted-spells (onward {xs} {x} f d) = rw (each-more xs x, fronted-more (each xs) (part x)) (onward (fronted-spells f) (shown-spells d 1 (omega arith)))
+  fronted-spells (onward {xs} {x} f d) = rw (fronted-last (shown 1) xs x) (onward (fronted-spells f) (shown-spells d 1 (omega arith)))
 
 -- parentheses cost two tokens
 grouped-few : (k m : ℕ) (ts : List Tok) → length (grouped k m ts) ≤ length ts + 2
@@ -197,20 +157,20 @@ mutual
   shown-least matching k h = rw (shown-matched k) (omega arith)
   shown-least (column side name) k h = rw (shown-column k side name) (omega arith)
   shown-least (call {ts} {xs} name p d) k h =
-      rw (shown-call k name xs) (omega (arith, length-append (listed (each xs)) (symbol symbols.Close ∷ []), length-append ts (symbol symbols.Close ∷ []), listed-least d))
+      rw (shown-call k name xs) (omega (arith, length-append (listed (shown 1) xs) (symbol symbols.Close ∷ []), length-append ts (symbol symbols.Close ∷ []), listed-least d))
   shown-least (group {ts} {x} d) k h = omega (arith, length-append ts (symbol symbols.Close ∷ []), shown-few d k, shown-least d 1 (omega arith))
 
-  listed-least : {ts : List Tok} {xs : List Expr} → SpellsArguments ts xs → length (listed (each xs)) ≤ length ts
+  listed-least : {ts : List Tok} {xs : List Expr} → SpellsArguments ts xs → length (listed (shown 1) xs) ≤ length ts
   listed-least none = omega arith
   listed-least (some {ts} {us} {xs} {x} f d) =
-      rw (each-more xs x, listed-last (each xs) (part x))
-      (omega (arith, length-append (fronted (each xs)) (shown 1 x), length-append ts us, fronted-least f, shown-least d 1 (omega arith)))
+      rw (listed-last (shown 1) xs x)
+      (omega (arith, length-append (fronted (shown 1) xs) (shown 1 x), length-append ts us, fronted-least f, shown-least d 1 (omega arith)))
 
-  fronted-least : {ts : List Tok} {xs : List Expr} → SpellsFront ts xs → length (fronted (each xs)) ≤ length ts
+  fronted-least : {ts : List Tok} {xs : List Expr} → SpellsFront ts xs → length (fronted (shown 1) xs) ≤ length ts
   fronted-least start = omega arith
   fronted-least (onward {ts} {us} {xs} {x} f d) =
-      rw (each-more xs x, fronted-more (each xs) (part x))
-      (omega (arith, length-append (fronted (each xs) ++ shown 1 x) (symbol symbols.Comma ∷ []), length-append (fronted (each xs)) (shown 1 x), length-append (ts ++ us) (symbol symbols.Comma ∷ []), length-append ts us, fronted-least f, shown-least d 1 (omega arith)))
+      rw (fronted-last (shown 1) xs x)
+      (omega (arith, length-append (fronted (shown 1) xs ++ shown 1 x) (symbol symbols.Comma ∷ []), length-append (fronted (shown 1) xs) (shown 1 x), length-append (ts ++ us) (symbol symbols.Comma ∷ []), length-append ts us, fronted-least f, shown-least d 1 (omega arith)))
 
 pub shows_what_is_spelled : ShowsWhatIsSpelled
 shows_what_is_spelled ts x d = shown-spells d 1 (omega arith)
@@ -219,15 +179,15 @@ pub shows_fewest : ShowsFewest
 shows_fewest ts x d = shown-least d 1 (omega arith)
 
 -- tokens that may stand in a text
-proper-append : (ts us : List Tok) → AreProperToks ts → AreProperToks us → AreProperToks (ts ++ us)
+pub proper-append : (ts us : List Tok) → AreProperToks ts → AreProperToks us → AreProperToks (ts ++ us)
 proper-append [] us a b = b
 proper-append (t ∷ ts) us a b = (a.0, proper-append ts us a.1 b)
 
-proper-left : (ts us : List Tok) → AreProperToks (ts ++ us) → AreProperToks ts
+pub proper-left : (ts us : List Tok) → AreProperToks (ts ++ us) → AreProperToks ts
 proper-left [] us a = tt
 proper-left (t ∷ ts) us a = (a.0, proper-left ts us a.1)
 
-proper-right : (ts us : List Tok) → AreProperToks (ts ++ us) → AreProperToks us
+pub proper-right : (ts us : List Tok) → AreProperToks (ts ++ us) → AreProperToks us
 proper-right [] us a = a
 proper-right (t ∷ ts) us a = proper-right ts us a.1
 
@@ -239,7 +199,7 @@ grouped-proper k m ts a = go (nat_le k m)
     go false = (tt, proper-append ts (symbol symbols.Close ∷ []) a (tt, tt))
 
 mutual
-  shown-proper : {l : ℕ} {ts : List Tok} {x : Expr} → Spells l ts x → AreProperToks ts → (k : ℕ) → AreProperToks (shown k x)
+  pub shown-proper : {l : ℕ} {ts : List Tok} {x : Expr} → Spells l ts x → AreProperToks ts → (k : ℕ) → AreProperToks (shown k x)
   shown-proper (above d) p k = shown-proper d p k
   shown-proper (between {ts} {us} {a} {b} o d e) p k =
       let behind : AreProperToks (spelled o ∷ us) = proper-right ts (spelled o ∷ us) p in
@@ -253,20 +213,20 @@ mutual
   shown-proper matching p k = rw (shown-matched k) p
   shown-proper (column side name) p k = rw (shown-column k side name) p
   shown-proper (call {ts} {xs} name q d) p k =
-      rw (shown-call k name xs) (p.0, (tt, proper-append (listed (each xs)) (symbol symbols.Close ∷ []) (listed-proper d (proper-left ts (symbol symbols.Close ∷ []) p.1.1)) (tt, tt)))
+      rw (shown-call k name xs) (p.0, (tt, proper-append (listed (shown 1) xs) (symbol symbols.Close ∷ []) (listed-proper d (proper-left ts (symbol symbols.Close ∷ []) p.1.1)) (tt, tt)))
   shown-proper (group {ts} d) p k = shown-proper d (proper-left ts (symbol symbols.Close ∷ []) p.1) k
 
-  listed-proper : {ts : List Tok} {xs : List Expr} → SpellsArguments ts xs → AreProperToks ts → AreProperToks (listed (each xs))
+  listed-proper : {ts : List Tok} {xs : List Expr} → SpellsArguments ts xs → AreProperToks ts → AreProperToks (listed (shown 1) xs)
   listed-proper none p = tt
   listed-proper (some {ts} {us} {xs} {x} f d) p =
-      rw (each-more xs x, listed-last (each xs) (part x)) (proper-append (fronted (each xs)) (shown 1 x) (fronted-proper f (proper-left ts us p)) (shown-proper d (proper-right ts us p) 1))
+      rw (listed-last (shown 1) xs x) (proper-append (fronted (shown 1) xs) (shown 1 x) (fronted-proper f (proper-left ts us p)) (shown-proper d (proper-right ts us p) 1))
 
-  fronted-proper : {ts : List Tok} {xs : List Expr} → SpellsFront ts xs → AreProperToks ts → AreProperToks (fronted (each xs))
+  fronted-proper : {ts : List Tok} {xs : List Expr} → SpellsFront ts xs → AreProperToks ts → AreProperToks (fronted (shown 1) xs)
   fronted-proper start p = tt
   fronted-proper (onward {ts} {us} {xs} {x} f d) p =
       let both : AreProperToks (ts ++ us) = proper-left (ts ++ us) (symbol symbols.Comma ∷ []) p in
-      rw (each-more xs x, fronted-more (each xs) (part x)) (proper-append (fronted (each xs) ++ shown 1 x) (symbol symbols.Comma ∷ [])
-      (proper-append (fronted (each xs)) (shown 1 x) (fronted-proper f (proper-left ts us both)) (shown-proper d (proper-right ts us both) 1)) (tt, tt))
+      rw (fronted-last (shown 1) xs x) (proper-append (fronted (shown 1) xs ++ shown 1 x) (symbol symbols.Comma ∷ [])
+      (proper-append (fronted (shown 1) xs) (shown 1 x) (fronted-proper f (proper-left ts us both)) (shown-proper d (proper-right ts us both) 1)) (tt, tt))
 
 pub proper-pieces : (ps : List Piece) → AreProperToks (map tok ps) → AreProper ps
 proper-pieces [] a = tt

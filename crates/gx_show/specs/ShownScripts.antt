@@ -1,11 +1,15 @@
 -- What is shown of a script, beside the tokens that spelled it.
-use Rattle.std.specs.Prelude.{◌≤◌, List, length}
+use Rattle.std.specs.Prelude.{◌≡◌, ◌≤◌, None, List, [], ◌∷◌, length, codes, refl}
 use Rattle.gx_tokens.specs.Spacing.{AreProperLines, AreProperToks, toks_of_lines}
 use Rattle.gx_tokens.specs.Toks.{Tok}
+use Rattle.gx_grammar.specs.declared.tree.constant.Const.TheVariants as consts
 use Rattle.gx_grammar.specs.declared.tree.stmt.Stmt.{Stmt}
+use Rattle.gx_grammar.specs.declared.tree.stmt.Stmt.TheVariants as stmts
+use Rattle.gx_grammar.specs.declared.tree.words.MergeWord.TheVariants as merge_words
+use Rattle.gx_grammar.specs.declared.tree.words.SideWord.TheVariants as sides
 use Rattle.gx_statements.specs.Forms.{SpellsScript}
 use Rattle.gx_statements.specs.Limits.{IsShort}
-use Rattle.gx_show.specs.ShownForms.{lines}
+use Rattle.gx_show.specs.ShownForms.{lines, shown_text}
 
 -- the tokens that are shown spell the script
 abbrev pub ShowsScripts : Type 0
@@ -22,3 +26,9 @@ ShowsShort = (ts : List Tok) (s : List Stmt) → SpellsScript ts s → IsShort t
 -- what is shown may stand in a text, if the tokens that spelled it may
 abbrev pub ShowsProperLines : Type 0
 ShowsProperLines = (ts : List Tok) (s : List Stmt) → SpellsScript ts s → AreProperToks ts → AreProperLines (lines s)
+
+-- two lines
+shown-lines : shown_text (stmts.Graph (codes "g") (codes "v") (codes "e") (consts.Quoted (codes "a") ∷ consts.NoIds ∷ [])
+    ∷ stmts.Aggregate (codes "t") (codes "g") (record { to = sides.Dst; values = []; when = None } ∷ []) (record { name = codes "n"; by = merge_words.Count } ∷ []) ∷ [])
+    ≡ codes "graph g = v, e default (\"a\", ids());\naggregate t = g to dst () merge (n: count);\n"
+shown-lines = refl

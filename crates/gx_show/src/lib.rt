@@ -7,4 +7,4 @@
 
 mod laws;
 
-pub use laws::expressions_are_shown;
+pub use laws::{expressions_are_shown, scripts_are_shown};
