@@ -2,11 +2,10 @@
 use Rattle.std.proofs.Common.{◌≡◌, ℕ, suc, ◌<◌, ◌≤◌, true, false, IsTrue, Some, None, List, [], ◌∷◌, ◌++◌, refl, ◌∙◌, ap, append_assoc, arith, nat_le, bytes_eq, codes}
 use Rattle.std.proofs.lemmas.Bool.{le-leb}
 use Rattle.gx_tokens.specs.Toks.{Tok, word, number, quoted, symbol}
+use Rattle.gx_tokens.specs.declared.symbol.Symbol.TheVariants as symbols
 use Rattle.gx_grammar.specs.Operators.{level, left, right, outer, inner, operator, spelled, spelled_before, not_word}
 use Rattle.gx_grammar.specs.Grammar.{number_of, truth_of, matched_of, call_of, Spells, above, between, before, constant, quotation, yes, no, matching, column, call, group, SpellsArguments, none, some, SpellsFront, start, onward, is_name, fits}
 use Rattle.gx_grammar.specs.Reading.{goes, weight, joined, room, unwind, constant_word, is_dot, is_open, is_close, least_before, needs, settles, having, finished, answered, step, reads}
-use Rattle.gx_grammar.proofs.Levels.{level-left, level-right, outer-inner, stays, unwinds, not_of, operator-spelled}
-use Rattle.gx_tokens.specs.declared.symbol.Symbol.TheVariants as symbols
 use Rattle.gx_grammar.specs.declared.tree.expr.Expr.{Expr}
 use Rattle.gx_grammar.specs.declared.tree.expr.Binary.{Binary}
 use Rattle.gx_grammar.specs.declared.tree.expr.Binary.TheVariants as binary
@@ -17,6 +16,7 @@ use Rattle.gx_grammar.specs.declared.stack.Waiting.TheVariants as waiting
 use Rattle.gx_grammar.specs.declared.steps.Spot.TheVariants.{Want as want, Begun as begun, Named as named, Have as have}
 use Rattle.gx_grammar.specs.declared.stack.Frame.{Frame}
 use Rattle.gx_grammar.specs.declared.stack.Frame.TheVariants.{Waits as waits, Bracket as bracket, Arguments as arguments}
+use Rattle.gx_grammar.proofs.Levels.{level-left, level-right, outer-inner, stays, unwinds, not_of, operator-spelled}
 
 -- an expression of level l ends before these tokens
 pub record StopsAt (l : ℕ) (t : Tok) : Type 0 where

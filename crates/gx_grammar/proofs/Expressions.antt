@@ -5,14 +5,14 @@ use Rattle.gx_grammar.specs.Operators.{operator}
 use Rattle.gx_grammar.specs.Grammar.{Spells, constant}
 use Rattle.gx_grammar.specs.Readers.{Ends, Faithful}
 use Rattle.gx_grammar.specs.Reading.{ends, is_dot, is_open, is_close, is_comma, after, closing, parting, over, step, reads, expression, goes_on, is_operator}
+use Rattle.gx_grammar.specs.declared.tree.expr.Expr.{Expr}
+use Rattle.gx_grammar.specs.declared.tree.expr.Binary.{Binary}
+use Rattle.gx_grammar.specs.declared.steps.Spot.TheVariants.{Want as want, Have as have}
 use Rattle.gx_grammar.proofs.Readers.{or_left, or_right}
 use Rattle.gx_grammar.proofs.Levels.{lowered}
 use Rattle.gx_grammar.proofs.Complete.{Stops, complete}
 use Rattle.gx_grammar.proofs.Local.{local}
 use Rattle.gx_grammar.proofs.Sound.{tells}
-use Rattle.gx_grammar.specs.declared.tree.expr.Expr.{Expr}
-use Rattle.gx_grammar.specs.declared.tree.expr.Binary.{Binary}
-use Rattle.gx_grammar.specs.declared.steps.Spot.TheVariants.{Want as want, Have as have}
 
 no_operator : (t : Tok) (o : Option Binary) → operator t ≡ o → is_operator o ≡ false → operator t ≡ None
 no_operator t None e h = e

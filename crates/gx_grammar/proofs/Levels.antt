@@ -2,12 +2,12 @@
 use Rattle.std.proofs.Common.{◌≡◌, ℕ, suc, zero, ◌<◌, ◌≤◌, ◌+◌, ◌-◌, Bool, true, false, not, IsTrue, if◌then◌else◌, Option, Some, None, List, [], ◌∷◌, refl, subst, arith, nat_le, bytes_eq}
 use Rattle.std.proofs.lemmas.Bool.{le-leb, leb-true}
 use Rattle.std.proofs.lemmas.Slice.Eq.{bytes_eq-Decides}
-use Rattle.gx_tokens.specs.Toks.{Tok, word, number, quoted, symbol}
-use Rattle.gx_grammar.specs.Operators.{level, left, right, outer, inner, operator, word_operator, spelled, not_word}
 use Rattle.std.proofs.Common.{codes}
+use Rattle.gx_tokens.specs.Toks.{Tok, word, number, quoted, symbol}
+use Rattle.gx_tokens.specs.declared.symbol.Symbol.TheVariants as symbols
+use Rattle.gx_grammar.specs.Operators.{level, left, right, outer, inner, operator, word_operator, spelled, not_word}
 use Rattle.gx_grammar.specs.Grammar.{truth_of, matched_of, Spells, above, yes, no, matching, is_name}
 use Rattle.gx_grammar.specs.Reading.{weight, need, joined, room, unwind, constant_word, is_dot, is_open, is_close, is_comma, is_minus, least_before, needs}
-use Rattle.gx_tokens.specs.declared.symbol.Symbol.TheVariants as symbols
 use Rattle.gx_grammar.specs.declared.tree.expr.Expr.{Expr}
 use Rattle.gx_grammar.specs.declared.tree.expr.Binary.{Binary}
 use Rattle.gx_grammar.specs.declared.tree.expr.Binary.TheVariants as binary

@@ -4,12 +4,11 @@ use Rattle.std.proofs.lemmas.Bool.{leb-true}
 use Rattle.std.proofs.lemmas.List.{append-nil}
 use Rattle.std.proofs.lemmas.Slice.Eq.{bytes_eq-Decides}
 use Rattle.gx_tokens.specs.Toks.{Tok, word, number, quoted, symbol}
+use Rattle.gx_tokens.specs.declared.symbol.Symbol.TheVariants as symbols
 use Rattle.gx_grammar.specs.Operators.{level, left, operator, spelled, spelled_before, not_word}
 use Rattle.gx_grammar.specs.Grammar.{number_of, call_of, Spells, between, before, constant, quotation, column, call, group, none, some, SpellsFront, start, onward, is_name, fits}
 use Rattle.gx_grammar.specs.Readers.{Begun, Tells}
 use Rattle.gx_grammar.specs.Reading.{Answer, goes, ends, refuses, weight, need, joined, room, unwind, constant_word, is_dot, is_open, is_close, is_comma, is_minus, closing, parting, over, operating, after, settled, settles, having, single, begins, emptied, standing, negating, naming, dotting, least_before, needs, finished, answered, step, reads, expression}
-use Rattle.gx_grammar.proofs.Levels.{room-high, needs-high, lowered, name_of, operator_is, dot_is, open_is, close_is, comma_is, minus_is, constant_spells}
-use Rattle.gx_tokens.specs.declared.symbol.Symbol.TheVariants as symbols
 use Rattle.gx_grammar.specs.declared.tree.expr.Expr.{Expr}
 use Rattle.gx_grammar.specs.declared.tree.expr.Binary.{Binary}
 use Rattle.gx_grammar.specs.declared.tree.expr.Unary.{Unary}
@@ -20,6 +19,7 @@ use Rattle.gx_grammar.specs.declared.steps.Spot.{Spot}
 use Rattle.gx_grammar.specs.declared.steps.Spot.TheVariants.{Want as want, Begun as begun, Named as named, Dotted as dotted, Have as have}
 use Rattle.gx_grammar.specs.declared.stack.Frame.{Frame}
 use Rattle.gx_grammar.specs.declared.stack.Frame.TheVariants.{Waits as waits, Bracket as bracket, Arguments as arguments}
+use Rattle.gx_grammar.proofs.Levels.{room-high, needs-high, lowered, name_of, operator_is, dot_is, open_is, close_is, comma_is, minus_is, constant_spells}
 
 -- the tokens of an operation that waits for its last operand
 data Brings : Waiting → List Tok → Type 0 where

@@ -1,8 +1,8 @@
 -- The grammar of expressions: which tokens spell which tree.
 use Rattle.std.specs.Prelude.{ℕ, suc, Bool, true, false, not, nat_lt, IsTrue, List, [], ◌∷◌, ◌++◌, codes, bytes_eq, pos}
 use Rattle.gx_tokens.specs.Toks.{Tok, word, number, quoted, symbol}
-use Rattle.gx_grammar.specs.Operators.{level, left, right, outer, inner, spelled, spelled_before, not_word}
 use Rattle.gx_tokens.specs.declared.symbol.Symbol.TheVariants as symbols
+use Rattle.gx_grammar.specs.Operators.{level, left, right, outer, inner, spelled, spelled_before, not_word}
 use Rattle.gx_grammar.specs.declared.tree.expr.Binary.{Binary}
 use Rattle.gx_grammar.specs.declared.tree.expr.Unary.{Unary}
 use Rattle.gx_grammar.specs.declared.tree.expr.Expr.{Expr, roll-Expr}

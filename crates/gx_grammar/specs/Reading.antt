@@ -1,9 +1,9 @@
 -- How an expression is read: token by token, with a stack of what was begun.
 use Rattle.std.specs.Prelude.{ℕ, Bool, true, false, nat_le, ◌||◌, if◌then◌else◌, Option, Some, None, List, [], ◌∷◌, ◌++◌, Result, Ok, Err, codes, bytes_eq}
 use Rattle.gx_tokens.specs.Toks.{Tok, word, number, quoted, symbol}
+use Rattle.gx_tokens.specs.declared.symbol.Symbol.TheVariants as symbols
 use Rattle.gx_grammar.specs.Operators.{level, left, right, outer, inner, operator, not_word}
 use Rattle.gx_grammar.specs.Grammar.{number_of, quoted_of, truth_of, matched_of, column_of, call_of, unary_of, binary_of, fits}
-use Rattle.gx_tokens.specs.declared.symbol.Symbol.TheVariants as symbols
 use Rattle.gx_grammar.specs.declared.tree.expr.Binary.{Binary}
 use Rattle.gx_grammar.specs.declared.tree.expr.Unary.TheVariants as unary
 use Rattle.gx_grammar.specs.declared.tree.expr.Expr.{Expr}

@@ -1,8 +1,8 @@
 //! Tokens that stand for themselves.
 
 ghost use Rattle.std.specs.Prelude.{◌≡◌};
-ghost use Rattle.gx_grammar.specs.Reading as reading;
 ghost use Rattle.gx_tokens.specs.TokenTexts.{tok_of};
+ghost use Rattle.gx_grammar.specs.Reading as reading;
 
 use gx_tokens::{Lexeme, Symbol};
 

@@ -1,21 +1,20 @@
 -- The readers of statements and scripts read just the words of these.
-use Rattle.std.proofs.Common.{◌≡◌, ℕ, pos, Bool, true, false, not, ◌&&◌, ◌||◌, Option, Some, None, Result, Ok, Err, List, [], ◌∷◌, ◌++◌, codes, refl, sym, ◌∙◌, ap, append_assoc}
-use Rattle.std.proofs.lemmas.List.{append-nil}
-use Rattle.gx_tokens.specs.Toks.{Tok, word, number, quoted, symbol}
-use Rattle.gx_statements.specs.Marks.{is_sign, is_word, sign, keyword}
+use Rattle.std.proofs.Common.{◌≡◌, pos, Bool, true, false, not, ◌&&◌, ◌||◌, List, [], ◌∷◌, ◌++◌, codes, refl, ◌∙◌, ap}
+use Rattle.gx_tokens.specs.Toks.{Tok, word, number, quoted}
 use Rattle.gx_grammar.specs.Grammar.{Spells}
 use Rattle.gx_grammar.specs.Reading.{goes_on}
-use Rattle.gx_grammar.specs.Readers.{made, one, seq, repeated, One, Made, Then, Many, Ends, Faithful}
+use Rattle.gx_grammar.specs.Readers.{made, one, seq, One, Made, Then, Ends, Faithful}
+use Rattle.gx_grammar.specs.declared.tree.stmt.Stmt.{Stmt}
+use Rattle.gx_grammar.proofs.Readers.{one_faithful, seq_faithful, repeated_faithful, Starts}
+use Rattle.gx_grammar.proofs.Expressions.{expression_faithful}
+use Rattle.gx_statements.specs.Marks.{is_sign, is_word, sign, keyword}
 use Rattle.gx_statements.specs.Parts as parts
 use Rattle.gx_statements.specs.Parts.{meant}
 use Rattle.gx_statements.specs.Forms.{Part, a_name, a_text, a_number, a_cut, a_neighbour, columns, sets, consts, named, merges, sends, condition, tests, oriented, active, printed, counted, Value, SpellsPart, read_part, printed_of, counted_of, Form, fin, mark, say, part, Values, SpellsForm, read_form, head_of, form_of, stmt_of, SpellsBody, body, SpellsSentence, sentence, SpellsScript, script}
-use Rattle.gx_grammar.proofs.Readers.{one_faithful, seq_faithful, repeated_faithful, Starts}
-use Rattle.gx_statements.proofs.Parts.{nothing, nothing_on, sign_tok, sign_faithful, word_faithful, sign_starts, word_starts, then_starts, ends_at, apart_sign, apart_word, made_any, behind, last, listed_faithful, labelled_faithful, labelled_opens, const_faithful, const_opens, sends_go, sends_faithful, tests_go, tests_faithful, oriented_go, oriented_faithful, active_go, active_faithful}
-use Rattle.gx_grammar.proofs.Expressions.{expression_faithful}
 use Rattle.gx_statements.specs.declared.heads.Head.{Head}
 use Rattle.gx_statements.specs.declared.heads.Head.TheVariants as heads
 use Rattle.gx_statements.specs.declared.signs.Sign.TheVariants as signs
-use Rattle.gx_grammar.specs.declared.tree.stmt.Stmt.{Stmt}
+use Rattle.gx_statements.proofs.Parts.{nothing, sign_tok, sign_faithful, word_faithful, sign_starts, word_starts, then_starts, ends_at, apart_sign, apart_word, made_any, behind, last, listed_faithful, labelled_faithful, labelled_opens, const_faithful, const_opens, sends_go, sends_faithful, tests_go, tests_faithful, oriented_go, oriented_faithful, active_go, active_faithful}
 
 -- the tokens with which a part goes on
 abbrev pub go_part : Part → Tok → Bool

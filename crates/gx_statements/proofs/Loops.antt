@@ -1,13 +1,12 @@
 -- Loops that read word after word.
-use Rattle.std.proofs.Common.{◌≡◌, ℕ, zero, suc, ◌<◌, ◌-◌, ◌+◌, Bool, true, false, Option, Some, None, Result, Ok, Err, List, [], ◌∷◌, ◌++◌, length, map, refl, sym, ◌∙◌, ap, append_assoc, arith}
+use Rattle.std.proofs.Common.{◌≡◌, ℕ, suc, Bool, true, false, Result, Ok, Err, List, [], ◌∷◌, ◌++◌, length, refl, sym, ◌∙◌, ap, append_assoc}
 use Rattle.std.proofs.lemmas.List.{append-nil}
 use Rattle.gx_tokens.specs.Toks.{Tok}
-use Rattle.gx_grammar.specs.Halts.{Reads, toks_of}
-use Rattle.gx_tokens.specs.declared.lexeme.Placed.{Placed}
+use Rattle.gx_grammar.specs.Halts.{Reads}
+use Rattle.gx_grammar.specs.Readers.{◌>>=◌, many, repeated, mapped}
 use Rattle.gx_grammar.specs.declared.halt.Halt.{Halt}
 use Rattle.gx_grammar.specs.declared.halt.Halt.TheVariants as halts
 use Rattle.gx_statements.specs.Parts.{is_next}
-use Rattle.gx_grammar.specs.Readers.{◌>>=◌, many, repeated, mapped, seq, choose, made}
 
 -- what was found, and then what the rest gives
 abbrev pub joined : {A : Type 0} → List A → Result (List A × List Tok) (List Tok) → Result (List A × List Tok) (List Tok)

@@ -1,30 +1,29 @@
 -- The readers of parts read just the words of the parts.
-use Rattle.std.proofs.Common.{◌≡◌, ℕ, ℤ, pos, Bool, true, false, if◌then◌else◌, ◌||◌, ◌⊎◌, inl, inr, Option, Some, None, Result, Ok, Err, List, [], ◌∷◌, ◌++◌, codes, bytes_eq, refl, sym, ◌∙◌, ap, subst, append_assoc}
+use Rattle.std.proofs.Common.{◌≡◌, ℕ, pos, Bool, true, false, ◌||◌, inl, inr, Option, Some, None, Result, List, [], ◌∷◌, ◌++◌, codes, bytes_eq, refl, ◌∙◌, ap}
 use Rattle.std.proofs.lemmas.List.{append-nil}
 use Rattle.std.proofs.lemmas.Slice.Eq.{bytes_eq-Decides}
 use Rattle.gx_tokens.specs.Toks.{Tok, word, number, quoted, symbol}
-use Rattle.gx_statements.specs.Marks.{is_sign, is_word, sign, keyword, passing}
-use Rattle.gx_grammar.specs.Grammar.{Spells}
-use Rattle.gx_grammar.specs.Reading.{expression, goes_on, is_close, is_comma, is_open}
-use Rattle.gx_grammar.specs.Readers.{made, one, seq, choose, repeated, One, Made, Then, Either, Many, none, more, Ends, Takes, Faithful}
-use Rattle.gx_statements.specs.Parts.{name_of, quoted_value, number_value, meant, const_head, signed_head, Listed, further, listed, Labelled, labelled, ConstTail, const_tail, negative, SpellsConst, a_const, Optional, optional, Led, led, send, SpellsSend, a_send, SpellsSends, sends, SpellsTests, tests, tested, SpellsOriented, oriented, SpellsActive, active, side_of, active_of}
-use Rattle.gx_grammar.proofs.Readers.{made_faithful, one_faithful, seq_faithful, choose_faithful, repeated_faithful, Starts, ends_left, ends_right, or_left, or_right}
-use Rattle.gx_grammar.proofs.Levels.{close_is, comma_is}
-use Rattle.gx_grammar.proofs.Complete.{First, first_of}
-use Rattle.gx_grammar.proofs.Expressions.{expression_faithful}
-use Rattle.gx_statements.specs.declared.signs.Sign.{Sign}
-use Rattle.gx_statements.specs.declared.signs.Sign.TheVariants as signs
 use Rattle.gx_tokens.specs.declared.symbol.Symbol.{Symbol}
 use Rattle.gx_tokens.specs.declared.symbol.Symbol.TheVariants as symbols
-use Rattle.gx_statements.specs.declared.entries.ConstHead.{ConstHead}
-use Rattle.gx_statements.specs.declared.entries.ConstHead.TheVariants as heads
-use Rattle.gx_statements.specs.declared.sends.Tests.{Tests}
+use Rattle.gx_grammar.specs.Grammar.{Spells}
+use Rattle.gx_grammar.specs.Reading.{expression, goes_on}
+use Rattle.gx_grammar.specs.Readers.{made, one, seq, choose, repeated, One, Made, Then, Either, Many, none, more, Ends, Faithful}
 use Rattle.gx_grammar.specs.declared.tree.constant.Const.{Const}
 use Rattle.gx_grammar.specs.declared.tree.constant.Const.TheVariants as consts
 use Rattle.gx_grammar.specs.declared.tree.expr.Expr.{Expr}
 use Rattle.gx_grammar.specs.declared.tree.parts.Send.{Send}
-use Rattle.gx_grammar.specs.declared.tree.words.ActiveWord.{ActiveWord}
 use Rattle.gx_grammar.specs.declared.tree.words.ActiveWord.TheVariants as actives
+use Rattle.gx_grammar.proofs.Readers.{made_faithful, one_faithful, seq_faithful, choose_faithful, repeated_faithful, Starts, ends_left, ends_right}
+use Rattle.gx_grammar.proofs.Levels.{close_is, comma_is}
+use Rattle.gx_grammar.proofs.Complete.{first_of}
+use Rattle.gx_grammar.proofs.Expressions.{expression_faithful}
+use Rattle.gx_statements.specs.Marks.{is_sign, is_word, sign, keyword, passing}
+use Rattle.gx_statements.specs.Parts.{name_of, number_value, meant, const_head, Listed, further, listed, Labelled, labelled, ConstTail, const_tail, negative, SpellsConst, a_const, Optional, optional, Led, led, send, SpellsSend, a_send, SpellsSends, sends, SpellsTests, tests, tested, SpellsOriented, oriented, SpellsActive, active, side_of, active_of}
+use Rattle.gx_statements.specs.declared.signs.Sign.{Sign}
+use Rattle.gx_statements.specs.declared.signs.Sign.TheVariants as signs
+use Rattle.gx_statements.specs.declared.entries.ConstHead.{ConstHead}
+use Rattle.gx_statements.specs.declared.entries.ConstHead.TheVariants as heads
+use Rattle.gx_statements.specs.declared.sends.Tests.{Tests}
 
 abbrev pub nothing : Tok → Bool
 nothing t = false

@@ -1,13 +1,13 @@
 -- The reader of scripts reads each script, and refuses other tokens at the first refused place.
-use Rattle.std.proofs.Common.{◌≡◌, ◌≤◌, ◌-◌, suc, true, Option, None, subst, Result, Ok, Err, List, [], ◌∷◌, ◌++◌, length, take, drop, refl, sym, ◌∙◌, ap, arith, append_assoc}
+use Rattle.std.proofs.Common.{◌≡◌, ◌≤◌, ◌-◌, suc, true, None, subst, Result, Ok, Err, List, [], ◌∷◌, ◌++◌, length, refl, sym, ◌∙◌, ap, arith, append_assoc}
 use Rattle.std.proofs.lemmas.List.{append-nil}
 use Rattle.gx_tokens.specs.Toks.{Tok}
 use Rattle.gx_grammar.specs.Readers.{Begun, Halted, Read, Tells, repeated}
+use Rattle.gx_grammar.specs.declared.tree.stmt.Stmt.{Stmt}
+use Rattle.gx_grammar.proofs.Readers.{ok_same, many_whole, left_before, left_behind, left_within}
 use Rattle.gx_statements.specs.Forms.{SpellsScript, SpellsSentence, script, sentence}
 use Rattle.gx_statements.specs.Refusals.{NoneGoesOn, AreRefusedAt}
 use Rattle.gx_statements.proofs.Forms.{script_faithful}
-use Rattle.gx_grammar.proofs.Readers.{ok_same, many_whole, left_before, left_behind, left_within}
-use Rattle.gx_grammar.specs.declared.tree.stmt.Stmt.{Stmt}
 
 pub both : (r : Result (List Stmt × List Tok) (List Tok)) (s : List Stmt) (a b : List Tok) → r ≡ Ok (s, a) → r ≡ Err b → ⊥
 both r s a b e h = absurd (let lie : ◌≡◌ {A = Result (List Stmt × List Tok) (List Tok)} (Ok (s, a)) (Err b) = sym e ∙ h in cc)

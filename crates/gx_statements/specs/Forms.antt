@@ -1,21 +1,9 @@
 -- The statements: each by the word that it begins with, and then the parts of its spelling.
-use Rattle.std.specs.Prelude.{ℕ, ℤ, Bool, true, false, if◌then◌else◌, Option, Some, None, Result, List, [], ◌∷◌, codes, bytes_eq}
+use Rattle.std.specs.Prelude.{ℕ, ℤ, Bool, true, if◌then◌else◌, Option, Some, None, Result, List, codes, bytes_eq}
 use Rattle.gx_tokens.specs.Toks.{Tok}
-use Rattle.gx_statements.specs.Marks.{sign, keyword}
 use Rattle.gx_grammar.specs.Grammar.{Spells}
 use Rattle.gx_grammar.specs.Reading.{expression}
 use Rattle.gx_grammar.specs.Readers.{made, one, seq, repeated, Made, One, Then, Many}
-use Rattle.gx_statements.specs.Parts as parts
-use Rattle.gx_statements.specs.Parts.{meant}
-use Rattle.gx_statements.specs.declared.heads.Head.{Head}
-use Rattle.gx_statements.specs.declared.heads.Head.TheVariants as heads
-use Rattle.gx_statements.specs.declared.heads.Printed.{Printed}
-use Rattle.gx_statements.specs.declared.heads.Printed.TheVariants as prints
-use Rattle.gx_statements.specs.declared.heads.Counted.{Counted}
-use Rattle.gx_statements.specs.declared.heads.Counted.TheVariants as counts
-use Rattle.gx_statements.specs.declared.signs.Sign.{Sign}
-use Rattle.gx_statements.specs.declared.signs.Sign.TheVariants as signs
-use Rattle.gx_statements.specs.declared.sends.Tests.{Tests}
 use Rattle.gx_grammar.specs.declared.tree.constant.Const.{Const}
 use Rattle.gx_grammar.specs.declared.tree.constant.NamedConst.{NamedConst}
 use Rattle.gx_grammar.specs.declared.tree.expr.Expr.{Expr}
@@ -28,6 +16,18 @@ use Rattle.gx_grammar.specs.declared.tree.stmt.Stmt.TheVariants as stmts
 use Rattle.gx_grammar.specs.declared.tree.words.ActiveWord.{ActiveWord}
 use Rattle.gx_grammar.specs.declared.tree.words.CutWord.{CutWord}
 use Rattle.gx_grammar.specs.declared.tree.words.NeighbourWord.{NeighbourWord}
+use Rattle.gx_statements.specs.Marks.{sign, keyword}
+use Rattle.gx_statements.specs.Parts as parts
+use Rattle.gx_statements.specs.Parts.{meant}
+use Rattle.gx_statements.specs.declared.heads.Head.{Head}
+use Rattle.gx_statements.specs.declared.heads.Head.TheVariants as heads
+use Rattle.gx_statements.specs.declared.heads.Printed.{Printed}
+use Rattle.gx_statements.specs.declared.heads.Printed.TheVariants as prints
+use Rattle.gx_statements.specs.declared.heads.Counted.{Counted}
+use Rattle.gx_statements.specs.declared.heads.Counted.TheVariants as counts
+use Rattle.gx_statements.specs.declared.signs.Sign.{Sign}
+use Rattle.gx_statements.specs.declared.signs.Sign.TheVariants as signs
+use Rattle.gx_statements.specs.declared.sends.Tests.{Tests}
 
 -- a part of a statement that has a value
 pub data Part : Type 0 where

@@ -1,8 +1,8 @@
 -- Tokens that stand for themselves.
 use Rattle.std.specs.Prelude.{ℕ, Bool, true, false, Option, Some, None, List, bytes_eq}
 use Rattle.gx_tokens.specs.Toks.{Tok, word, number, quoted, symbol}
-use Rattle.gx_grammar.specs.Reading.{is_open, is_close, is_comma}
 use Rattle.gx_tokens.specs.declared.symbol.Symbol.TheVariants as symbols
+use Rattle.gx_grammar.specs.Reading.{is_open, is_close, is_comma}
 use Rattle.gx_statements.specs.declared.signs.Sign.{Sign}
 use Rattle.gx_statements.specs.declared.signs.Sign.TheVariants as signs
 

@@ -1,11 +1,11 @@
 -- The parts of statements: their words, and how they are read.
 use Rattle.std.specs.Prelude.{ℕ, ℤ, pos, neg_ℤ, Bool, true, false, if◌then◌else◌, Option, Some, None, Result, List, [], ◌∷◌, codes, bytes_eq}
+use Rattle.gx_rows.specs.declared.value.ValueKind.{ValueKind}
+use Rattle.gx_rows.specs.declared.value.ValueKind.TheVariants as kinds
 use Rattle.gx_tokens.specs.Toks.{Tok, word, number, quoted, symbol}
-use Rattle.gx_statements.specs.Marks.{is_sign, is_word, sign, keyword}
 use Rattle.gx_grammar.specs.Grammar.{Spells, fits}
 use Rattle.gx_grammar.specs.Reading.{expression, is_minus}
-use Rattle.gx_grammar.specs.Readers.{made, one, seq, mapped, choose, repeated, Made, One, Then, Either, Many}
-use Rattle.gx_statements.specs.declared.signs.Sign.TheVariants as signs
+use Rattle.gx_grammar.specs.Readers.{made, one, seq, choose, repeated, Made, One, Then, Either, Many}
 use Rattle.gx_grammar.specs.declared.tree.expr.Expr.{Expr}
 use Rattle.gx_grammar.specs.declared.tree.constant.Const.{Const}
 use Rattle.gx_grammar.specs.declared.tree.constant.Const.TheVariants as consts
@@ -24,11 +24,11 @@ use Rattle.gx_grammar.specs.declared.tree.words.NeighbourWord.{NeighbourWord}
 use Rattle.gx_grammar.specs.declared.tree.words.NeighbourWord.TheVariants as neighbours
 use Rattle.gx_grammar.specs.declared.tree.words.SideWord.{SideWord}
 use Rattle.gx_grammar.specs.declared.tree.words.SideWord.TheVariants as sides
+use Rattle.gx_statements.specs.Marks.{is_sign, is_word, sign, keyword}
+use Rattle.gx_statements.specs.declared.signs.Sign.TheVariants as signs
 use Rattle.gx_statements.specs.declared.entries.ConstHead.{ConstHead}
 use Rattle.gx_statements.specs.declared.entries.ConstHead.TheVariants as heads
 use Rattle.gx_statements.specs.declared.sends.Tests.{Tests}
-use Rattle.gx_rows.specs.declared.value.ValueKind.{ValueKind}
-use Rattle.gx_rows.specs.declared.value.ValueKind.TheVariants as kinds
 
 -- whether the next token passes a test
 abbrev pub is_next : (Tok → Bool) → List Tok → Bool

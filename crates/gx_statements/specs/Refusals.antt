@@ -1,12 +1,12 @@
 -- The first refused place of the tokens of a script.
-use Rattle.std.specs.Prelude.{◌≡◌, ℕ, ◌≤◌, ◌⊎◌, Result, Ok, Err, List, [], ◌∷◌, ◌++◌, length, take, drop}
+use Rattle.std.specs.Prelude.{◌≡◌, ℕ, ◌≤◌, Result, Ok, Err, List, [], ◌∷◌, ◌++◌, length, take, drop}
 use Rattle.gx_tokens.specs.Toks.{Tok}
 use Rattle.gx_grammar.specs.Readers.{Begun}
+use Rattle.gx_grammar.specs.declared.tree.script.Script.{Script}
+use Rattle.gx_grammar.specs.declared.tree.stmt.Stmt.{Stmt}
 use Rattle.gx_statements.specs.Forms.{SpellsScript}
 use Rattle.gx_statements.specs.declared.grammar_stop.GrammarStop.{GrammarStop}
 use Rattle.gx_statements.specs.declared.grammar_stop.GrammarStop.TheVariants as stops
-use Rattle.gx_grammar.specs.declared.tree.script.Script.{Script}
-use Rattle.gx_grammar.specs.declared.tree.stmt.Stmt.{Stmt}
 
 -- no script's tokens begin with these and the next one; where none is next, these are no script
 abbrev pub NoneGoesOn : List Tok → List Tok → Type 0

@@ -2,9 +2,9 @@
 
 ghost use Rattle.std.specs.Prelude.{◌≡◌, option_map, ℤ, pos};
 ghost use Rattle.gx_grammar.specs.Halts.{Reads, toks_of};
-ghost use Rattle.gx_statements.specs.Marks as marks;
 ghost use Rattle.gx_grammar.specs.Readers.{one};
 ghost use Rattle.gx_grammar.specs.Reading as reading;
+ghost use Rattle.gx_statements.specs.Marks as marks;
 ghost use Rattle.gx_statements.specs.Parts as parts;
 
 use crate::signs::{Sign, is_sign, is_word};

@@ -1,13 +1,13 @@
 //! Entries of lists, and lists.
 
 ghost use Rattle.std.specs.Prelude.{◌≡◌, ◌∷◌, List, Result};
+ghost use Rattle.gx_tokens.specs.Toks.{Tok};
 ghost use Rattle.gx_grammar.specs.Halts.{Reads, toks_of};
-ghost use Rattle.gx_statements.specs.Marks as marks;
-ghost use Rattle.gx_statements.specs.declared.signs.Sign.TheVariants as signs;
-ghost use Rattle.gx_statements.specs.Parts as parts;
 ghost use Rattle.gx_grammar.specs.Reading as reading;
 ghost use Rattle.gx_grammar.specs.Readers.{mapped, one, seq};
-ghost use Rattle.gx_tokens.specs.Toks.{Tok};
+ghost use Rattle.gx_statements.specs.Marks as marks;
+ghost use Rattle.gx_statements.specs.Parts as parts;
+ghost use Rattle.gx_statements.specs.declared.signs.Sign.TheVariants as signs;
 
 use crate::cursor::Cursor;
 use crate::signs::Sign;

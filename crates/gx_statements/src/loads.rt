@@ -1,7 +1,7 @@
 //! Statements that load, and that make graphs.
 
-ghost use Rattle.gx_statements.specs.Forms as forms;
 ghost use Rattle.gx_grammar.specs.Halts.{Reads, toks_of};
+ghost use Rattle.gx_statements.specs.Forms as forms;
 ghost use Rattle.gx_statements.specs.declared.heads.Head.TheVariants as heads;
 
 use crate::cursor::Cursor;

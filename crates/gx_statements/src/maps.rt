@@ -1,12 +1,12 @@
 //! Statements that make a graph of a graph.
 
-ghost use Rattle.gx_statements.specs.Forms as forms;
 ghost use Rattle.gx_grammar.specs.Halts.{Reads, toks_of};
+ghost use Rattle.gx_statements.specs.Forms as forms;
 ghost use Rattle.gx_statements.specs.declared.heads.Head.TheVariants as heads;
 
 use crate::cursor::Cursor;
-use crate::signs::Sign;
 use crate::sends::Tests;
+use crate::signs::Sign;
 use gx_grammar::{Halt, Stmt};
 use std::alloc::Global;
 

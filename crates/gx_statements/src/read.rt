@@ -1,11 +1,11 @@
 //! The tokens of a script to its tree.
 
-ghost use Rattle.gx_statements.specs.Forms.{SpellsScript};
 ghost use Rattle.gx_grammar.specs.Halts.{toks_of};
+ghost use Rattle.gx_statements.specs.Forms.{SpellsScript};
 ghost use Rattle.gx_statements.specs.Refusals.{IsScript, Reads};
 
-use crate::cursor::Cursor;
 use crate::GrammarStop;
+use crate::cursor::Cursor;
 use gx_grammar::{Halt, Script};
 use gx_tokens::Placed;
 use std::alloc::Global;

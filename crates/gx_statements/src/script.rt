@@ -1,8 +1,8 @@
 //! Statements and scripts.
 
 ghost use Rattle.std.specs.Prelude.{◌≡◌, true};
-ghost use Rattle.gx_statements.specs.Forms as forms;
 ghost use Rattle.gx_grammar.specs.Halts.{Reads, toks_of};
+ghost use Rattle.gx_statements.specs.Forms as forms;
 ghost use Rattle.gx_statements.specs.Parts as parts;
 
 use crate::cursor::Cursor;

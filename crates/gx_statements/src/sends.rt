@@ -2,9 +2,9 @@
 
 ghost use Rattle.std.specs.Prelude.{◌≡◌, ◌∷◌, codes};
 ghost use Rattle.gx_grammar.specs.Halts.{Reads, toks_of};
+ghost use Rattle.gx_grammar.specs.Readers.{mapped, repeated};
 ghost use Rattle.gx_statements.specs.Marks.{is_word};
 ghost use Rattle.gx_statements.specs.Parts as parts;
-ghost use Rattle.gx_grammar.specs.Readers.{mapped, repeated};
 
 use crate::cursor::Cursor;
 use gx_grammar::{ActiveWord, Expr, Halt, Send};

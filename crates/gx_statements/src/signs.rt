@@ -1,8 +1,8 @@
 //! Tokens that stand for themselves in a statement.
 
 ghost use Rattle.std.specs.Prelude.{◌≡◌};
-ghost use Rattle.gx_statements.specs.Marks as marks;
 ghost use Rattle.gx_tokens.specs.TokenTexts.{tok_of};
+ghost use Rattle.gx_statements.specs.Marks as marks;
 
 use gx_grammar::{is_close, is_comma, is_open};
 use gx_tokens::{Lexeme, Symbol};

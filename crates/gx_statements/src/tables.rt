@@ -1,8 +1,8 @@
 //! Statements on tables, and actions.
 
 ghost use Rattle.std.specs.Prelude.{◌≡◌};
-ghost use Rattle.gx_statements.specs.Forms as forms;
 ghost use Rattle.gx_grammar.specs.Halts.{Reads, toks_of};
+ghost use Rattle.gx_statements.specs.Forms as forms;
 ghost use Rattle.gx_statements.specs.declared.heads.Head.TheVariants as heads;
 
 use crate::cursor::Cursor;

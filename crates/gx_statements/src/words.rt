@@ -1,10 +1,10 @@
 //! Words of which one is chosen.
 
 ghost use Rattle.std.specs.Prelude.{◌≡◌};
-ghost use Rattle.gx_statements.specs.Forms as forms;
 ghost use Rattle.gx_grammar.specs.Halts.{Reads, toks_of};
-ghost use Rattle.gx_statements.specs.Parts as parts;
 ghost use Rattle.gx_grammar.specs.Readers.{one};
+ghost use Rattle.gx_statements.specs.Forms as forms;
+ghost use Rattle.gx_statements.specs.Parts as parts;
 
 use crate::cursor::Cursor;
 use crate::heads::{Counted, Head, Printed, counted_of, head_of, printed_of};

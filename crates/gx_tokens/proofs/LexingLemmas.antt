@@ -1,13 +1,13 @@
 -- How the tokens of a text go on.
-use Rattle.std.proofs.Common.{◌≡◌, ◌+◌, ◌-◌, ◌<◌, ◌≤◌, ℕ, zero, suc, Bool, true, false, List, [], ◌∷◌, length, drop, None, Some, Ok, Err, refl, sym, ap, ◌⊎◌, ◌≢◌, ◌∙◌, arith, inl, inr, length-drop}
 use Rattle.std.specs.List.{prefix_len}
 use Rattle.std.specs.Prelude.{◌==◌, ◌&&◌, if◌then◌else◌}
+use Rattle.std.proofs.Common.{◌≡◌, ◌+◌, ◌-◌, ◌<◌, ◌≤◌, ℕ, zero, suc, Bool, true, false, List, [], ◌∷◌, length, drop, None, Some, Ok, Err, refl, sym, ap, ◌⊎◌, ◌≢◌, ◌∙◌, arith, inl, inr, length-drop}
 use Rattle.std.proofs.lemmas.Bool.Decides.{eqb_tells}
 use Rattle.std.proofs.lemmas.List.{drop-drop}
 use Rattle.std.proofs.lemmas.List.Sums.{prefix_len-le-length}
-use Rattle.gx_tokens.specs.declared.syntax_kind.SyntaxKind.{SyntaxKind}
 use Rattle.gx_tokens.specs.Toks.{Tok, whole, broken}
 use Rattle.gx_tokens.specs.Lexing.{before, gap_at, is_comment_byte, is_space, left_at, lexed, lexed_from, mark_len, no_more, token_at}
+use Rattle.gx_tokens.specs.declared.syntax_kind.SyntaxKind.{SyntaxKind}
 
 -- what is read already is passed
 pub lexed_from-drop : (at n : ℕ) (text : List ℕ) → n ≤ length text → lexed_from at n text ≡ lexed_from (at + n) 0 (drop n text)

@@ -1,21 +1,16 @@
 -- The tokens of a text are proper.
-use Rattle.std.proofs.Common.{◌≡◌, ◌+◌, ◌-◌, ◌<◌, ◌≤◌, ℕ, zero, suc, Bool, true, false, List, [], ◌∷◌, length, drop, map, Option, None, Some, Result, Ok, Err, refl, sym, ap, subst, ◌∙◌, arith}
 use Rattle.std.specs.Prelude.{◌==◌, nat_le, if◌then◌else◌, slice_index, take_while, All}
 use Rattle.std.specs.Char.{is_ascii_alphabetic, is_ascii_digit}
 use Rattle.std.specs.List.{prefix_len}
 use Rattle.std.specs.Str.Parse.{digits_value}
+use Rattle.std.proofs.Common.{◌≡◌, ◌+◌, ◌-◌, ◌<◌, ◌≤◌, ℕ, zero, suc, Bool, true, false, List, [], ◌∷◌, length, drop, map, Option, None, Some, Result, Ok, Err, refl, sym, ap, subst, ◌∙◌, arith}
 use Rattle.std.proofs.lemmas.Bool.{leb-true}
 use Rattle.std.proofs.lemmas.Bool.Decides.{nat_tests}
 use Rattle.std.proofs.lemmas.List.{get_or-map, get_or-take, length-map}
 use Rattle.std.proofs.lemmas.List.Elements.{All-cons, All-nil}
 use Rattle.std.proofs.lemmas.List.Folds.{length-prefix_len}
 use Rattle.std.proofs.lemmas.List.Sums.{prefix_len_passes, take_while-cons}
-use Rattle.gx_tokens.specs.declared.lexeme.End.{End}
-use Rattle.gx_tokens.specs.declared.lexeme.Placed.{Placed}
 use Rattle.gx_tokens.specs.Limits.{most_word_bytes, most_text_bytes, most_number}
-use Rattle.gx_tokens.specs.declared.symbol.Symbol.{Symbol}
-use Rattle.gx_tokens.specs.declared.syntax_kind.SyntaxKind.{SyntaxKind}
-use Rattle.gx_tokens.specs.declared.syntax_kind.SyntaxKind.TheVariants.{TextLong, NameLong, NumberLarge}
 use Rattle.gx_tokens.specs.Lexing.{gap_at, is_word_byte, lexed, lexed_from, limited, mark_len, number_at, quoted_at, read_on, spelled, token_at, word_at}
 use Rattle.gx_tokens.specs.Proper.{IsProper, IsWord}
 use Rattle.gx_tokens.specs.Quotes.{quoted_from}
@@ -23,6 +18,11 @@ use Rattle.gx_tokens.specs.Spacing.{AreProperToks, ReadsProper}
 use Rattle.gx_tokens.specs.Symbols.{symbol_at}
 use Rattle.gx_tokens.specs.Toks.{Lexed, Tok, word, number, quoted}
 use Rattle.gx_tokens.specs.TokenTexts.{lexed_of, placed_of, tok_of}
+use Rattle.gx_tokens.specs.declared.lexeme.End.{End}
+use Rattle.gx_tokens.specs.declared.lexeme.Placed.{Placed}
+use Rattle.gx_tokens.specs.declared.symbol.Symbol.{Symbol}
+use Rattle.gx_tokens.specs.declared.syntax_kind.SyntaxKind.{SyntaxKind}
+use Rattle.gx_tokens.specs.declared.syntax_kind.SyntaxKind.TheVariants.{TextLong, NameLong, NumberLarge}
 
 -- the token of an answer
 same_token : (n m : ℕ) (t u : Tok) → ◌≡◌ {A = Result (ℕ × Tok) SyntaxKind} (Ok (n, t)) (Ok (m, u)) → t ≡ u

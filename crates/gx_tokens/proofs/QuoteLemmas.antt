@@ -1,16 +1,16 @@
 -- Quoted texts: counting their bytes and those of their values.
-use Rattle.std.proofs.Common.{◌≡◌, ◌+◌, ◌<◌, ℕ, suc, Bool, true, false, List, [], ◌∷◌, ◌++◌, length, get_or, drop, take, Option, None, Some, refl, sym, ap, cond, ◌∙◌, arith, add-one, drop-cons, length-append, length-drop, append_assoc}
 use Rattle.std.specs.Prelude.{◌==◌, ◌||◌, if◌then◌else◌, not, IsCharBoundary}
 use Rattle.std.specs.List.{prefix_len, take_while}
+use Rattle.std.proofs.Common.{◌≡◌, ◌+◌, ◌<◌, ℕ, suc, Bool, true, false, List, [], ◌∷◌, ◌++◌, length, get_or, drop, take, Option, None, Some, refl, sym, ap, cond, ◌∙◌, arith, add-one, drop-cons, length-append, length-drop, append_assoc}
 use Rattle.std.proofs.lemmas.Bool.{eqb-true}
 use Rattle.std.proofs.lemmas.Bool.Decides.{nat_tests}
 use Rattle.std.proofs.lemmas.List.{append-nil, get_or-drop}
 use Rattle.std.proofs.Math.Seq.{drop-length, take-length}
 use Rattle.std.proofs.lemmas.List.Sums.{prefix_len-le-length, prefix_len_stops, take_while-cons}
+use Rattle.gx_tokens.specs.Quotes.{escape_value, extent_of, is_plain, stands_for, one_more, quote_at, quoted_from, quoted_on, unescaped_from, value_on}
 use Rattle.gx_tokens.specs.declared.quote.Extent.{Extent}
 use Rattle.gx_tokens.specs.declared.quote.Quote.{Quote}
 use Rattle.gx_tokens.specs.declared.quote.Quote.TheVariants.{Closes, Escapes, Stands, Refused}
-use Rattle.gx_tokens.specs.Quotes.{escape_value, extent_of, is_plain, stands_for, one_more, quote_at, quoted_from, quoted_on, unescaped_from, value_on}
 
 -- so many bytes more, and so many of the value
 abbrev pub counted : ℕ → ℕ → Option (ℕ × List ℕ) → Option Extent

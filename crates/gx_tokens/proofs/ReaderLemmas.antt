@@ -1,10 +1,10 @@
 -- Tokens as the reader finds them.
-use Rattle.std.proofs.Common.{◌≡◌, ◌+◌, ◌-◌, ◌<◌, ◌≤◌, ◌^◌, ℕ, Bool, true, false, cond, List, [], ◌∷◌, ◌++◌, length, get_or, drop, take, None, Some, Result, Ok, Err, Bor, refl, sym, ap, subst, ◌∙◌, ◌≢◌, arith, length-drop, length-append}
 use Rattle.std.specs.Prelude.{nat_le, if◌then◌else◌, IsUtf8, IsCharBoundary, take_while, ◌==◌}
 use Rattle.std.specs.Char.{is_ascii_alphabetic, is_ascii_digit}
 use Rattle.std.specs.List.{prefix_len}
 use Rattle.std.specs.Str.{all_ascii_digits}
 use Rattle.std.specs.Str.Parse.{ParsesUnsigned, digits_value}
+use Rattle.std.proofs.Common.{◌≡◌, ◌+◌, ◌-◌, ◌<◌, ◌≤◌, ◌^◌, ℕ, Bool, true, false, cond, List, [], ◌∷◌, ◌++◌, length, get_or, drop, take, None, Some, Result, Ok, Err, Bor, refl, sym, ap, subst, ◌∙◌, ◌≢◌, arith, length-drop, length-append}
 use Rattle.std.proofs.lemmas.Bool.{le-leb, lt-leb, leb-true, eq-eqb, ne_eqb}
 use Rattle.std.proofs.lemmas.Bool.Decides.{nat_tests}
 use Rattle.std.proofs.lemmas.List.{get_or-take, get_or-drop, get_or_append_left, take-take, take-append-le, drop-take, drop-drop}
@@ -12,19 +12,19 @@ use Rattle.std.proofs.Math.Seq.{take-length}
 use Rattle.std.proofs.lemmas.List.Sums.{prefix_len-drop_yes, prefix_len-le-length, prefix_len_passes, take_while-cons}
 use Rattle.std.proofs.lemmas.Str.{IsCharBoundary-before_ascii, IsCharBoundary-after_ascii}
 use Rattle.std.proofs.lemmas.Str.Parse.{IsNumeralModel, numerals_by_value, parse_digits, tells_all_ascii_digits}
-use Rattle.gx_tokens.specs.declared.lexeme.Lexeme.{Lexeme}
-use Rattle.gx_tokens.specs.declared.lexeme.Lexeme.TheVariants as lexemes
-use Rattle.gx_tokens.specs.declared.quote.Extent.{Extent}
-use Rattle.gx_tokens.specs.declared.reader.Found.{Found}
 use Rattle.gx_tokens.specs.Limits.{most_word_bytes, most_text_bytes, most_number}
-use Rattle.gx_tokens.specs.declared.symbol.Symbol.{Symbol}
-use Rattle.gx_tokens.specs.declared.syntax_kind.SyntaxKind.{SyntaxKind}
-use Rattle.gx_tokens.specs.declared.syntax_kind.SyntaxKind.TheVariants.{TextOpen, TextLong, NameLong, NumberLarge}
 use Rattle.gx_tokens.specs.Toks.{Tok, number}
 use Rattle.gx_tokens.specs.Lexing.{gap_at, is_word_byte, left_at, number_at, quoted_at, spelled, token_at, word_at}
 use Rattle.gx_tokens.specs.Quotes.{extent_of, quoted_from, unescaped}
 use Rattle.gx_tokens.specs.Symbols.{spelling, symbol_at}
 use Rattle.gx_tokens.specs.TokenTexts.{Finds, IsEdged, IsFirst, IsFound, IsWritten, tok_of}
+use Rattle.gx_tokens.specs.declared.lexeme.Lexeme.{Lexeme}
+use Rattle.gx_tokens.specs.declared.lexeme.Lexeme.TheVariants as lexemes
+use Rattle.gx_tokens.specs.declared.quote.Extent.{Extent}
+use Rattle.gx_tokens.specs.declared.reader.Found.{Found}
+use Rattle.gx_tokens.specs.declared.symbol.Symbol.{Symbol}
+use Rattle.gx_tokens.specs.declared.syntax_kind.SyntaxKind.{SyntaxKind}
+use Rattle.gx_tokens.specs.declared.syntax_kind.SyntaxKind.TheVariants.{TextOpen, TextLong, NameLong, NumberLarge}
 use Rattle.gx_tokens.proofs.LexingLemmas.{left_at-token}
 use Rattle.gx_tokens.proofs.QuoteLemmas.{extent_is, no_extent, quoted_from-closed}
 use Rattle.gx_tokens.proofs.SymbolLemmas.{spelling-plain, symbol_at-spelled}

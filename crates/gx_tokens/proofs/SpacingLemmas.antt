@@ -1,18 +1,18 @@
 -- The tokens of a spaced text are those that it was made of.
-use Rattle.std.proofs.Common.{◌≡◌, ℕ, suc, ◌<◌, ◌+◌, ◌^◌, Bool, true, false, if◌then◌else◌, ◌||◌, List, [], ◌∷◌, ◌++◌, length, map, refl, sym, ◌∙◌, ap, subst, append_assoc, length-append, arith, decimal}
 use Rattle.std.specs.Prelude.{◌==◌}
 use Rattle.std.specs.Char.{is_ascii_alphabetic, is_ascii_digit}
 use Rattle.std.specs.Str.{all_ascii_digits}
+use Rattle.std.proofs.Common.{◌≡◌, ℕ, suc, ◌<◌, ◌+◌, ◌^◌, Bool, true, false, if◌then◌else◌, ◌||◌, List, [], ◌∷◌, ◌++◌, length, map, refl, sym, ◌∙◌, ap, subst, append_assoc, length-append, arith, decimal}
 use Rattle.std.proofs.lemmas.Bool.Decides.{nat_tests}
 use Rattle.std.proofs.lemmas.List.{append-nil}
 use Rattle.std.proofs.lemmas.Fmt.{digits_decimal, decimal_nonempty}
-use Rattle.gx_tokens.specs.declared.symbol.Symbol.{Symbol}
-use Rattle.gx_tokens.specs.declared.symbol.Symbol.TheVariants as symbols
 use Rattle.gx_tokens.specs.Toks.{Tok, word, number, quoted, symbol, Lexed, whole}
 use Rattle.gx_tokens.specs.Symbols.{spelling}
 use Rattle.gx_tokens.specs.Lexing.{before, no_more, gap_at, is_space, is_word_byte, lexed, lexed_from, mark_len}
 use Rattle.gx_tokens.specs.Proper.{IsWord, IsProper}
 use Rattle.gx_tokens.specs.Spacing.{Piece, token, sign, function, tok, escapes, text_of, follows, is_open, leads, spaced_on, spaced, lined, toks_of_lines, toks, AreProper, AreProperLines, ReadsBack, ReadsLinesBack}
+use Rattle.gx_tokens.specs.declared.symbol.Symbol.{Symbol}
+use Rattle.gx_tokens.specs.declared.symbol.Symbol.TheVariants as symbols
 use Rattle.gx_tokens.proofs.TokenLemmas.{Stops, goes_on, reads_one, own, first_of, and_false}
 
 -- a byte that goes on no token

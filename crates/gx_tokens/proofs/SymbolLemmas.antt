@@ -1,10 +1,10 @@
 -- Symbols at the front of a text.
-use Rattle.std.proofs.Common.{◌≡◌, ◌-◌, ◌<◌, ℕ, List, [], ◌∷◌, ◌++◌, length, get_or, Option, None, Some, refl, ap, ◌∙◌, arith, inl, inr}
 use Rattle.std.specs.Prelude.{◌==◌, if◌then◌else◌}
+use Rattle.std.proofs.Common.{◌≡◌, ◌-◌, ◌<◌, ℕ, List, [], ◌∷◌, ◌++◌, length, get_or, Option, None, Some, refl, ap, ◌∙◌, arith, inl, inr}
 use Rattle.std.proofs.lemmas.Bool.Decides.{eqb_tells}
+use Rattle.gx_tokens.specs.Symbols.{alone, longest, spelling, symbol_at, with_equals}
 use Rattle.gx_tokens.specs.declared.symbol.Symbol.{Symbol}
 use Rattle.gx_tokens.specs.declared.symbol.Symbol.TheVariants as symbols
-use Rattle.gx_tokens.specs.Symbols.{alone, longest, spelling, symbol_at, with_equals}
 
 -- the bytes of a symbol are ASCII characters
 pub record IsPlain (text : List ℕ) : Type 0 where

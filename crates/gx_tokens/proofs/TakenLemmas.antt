@@ -1,15 +1,15 @@
 -- Tokens that are taken one by one.
 use Rattle.std.proofs.Common.{◌≡◌, ◌+◌, ◌++◌, ◌∷◌, [], ℕ, List, length, map, Bor, refl, sym, ap, ◌∙◌, append_assoc}
 use Rattle.std.proofs.lemmas.List.{append-nil, map-append}
+use Rattle.gx_tokens.specs.Lexing.{before, left_at, no_more}
+use Rattle.gx_tokens.specs.Taking.{IsTaken}
+use Rattle.gx_tokens.specs.Toks.{Lexed, Tok, word, number}
+use Rattle.gx_tokens.specs.TokenTexts.{IsFirst, IsWritten, Means, ending_of, kind_of, lexed_of, placed_of, tok_of}
 use Rattle.gx_tokens.specs.declared.lexeme.End.{End}
 use Rattle.gx_tokens.specs.declared.lexeme.Lexeme.{Lexeme}
 use Rattle.gx_tokens.specs.declared.lexeme.Lexeme.TheVariants as lexemes
 use Rattle.gx_tokens.specs.declared.lexeme.Placed.{Placed}
 use Rattle.gx_tokens.specs.declared.token.TokenKind.{TokenKind}
-use Rattle.gx_tokens.specs.Lexing.{before, left_at, no_more}
-use Rattle.gx_tokens.specs.Taking.{IsTaken}
-use Rattle.gx_tokens.specs.Toks.{Lexed, Tok, word, number}
-use Rattle.gx_tokens.specs.TokenTexts.{IsFirst, IsWritten, Means, ending_of, kind_of, lexed_of, placed_of, tok_of}
 
 -- how a lexeme is written says which token it is
 means : (l : Lexeme) (text : List ℕ) → IsWritten text l → Means (kind_of l) text (tok_of l)

@@ -1,10 +1,10 @@
 -- A token whose text does not go on is read back.
-use Rattle.std.proofs.Common.{◌≡◌, ℕ, suc, zero, ◌<◌, ◌≤◌, ◌+◌, ◌-◌, ◌^◌, Bool, true, false, if◌then◌else◌, Some, None, Ok, List, [], ◌∷◌, ◌++◌, length, drop, take, refl, sym, ◌∙◌, ap, ◌⊎◌, ◌≢◌, inl, inr, append_assoc, length-append, arith, cond, nat_le, decimal}
 use Rattle.std.specs.Prelude.{◌==◌, ◌&&◌}
 use Rattle.std.specs.Char.{is_ascii_alphabetic, is_ascii_digit}
 use Rattle.std.specs.List.{prefix_len, take_while, list_all}
 use Rattle.std.specs.Str.{all_ascii_digits}
 use Rattle.std.specs.Str.Parse.{digits_value}
+use Rattle.std.proofs.Common.{◌≡◌, ℕ, suc, zero, ◌<◌, ◌≤◌, ◌+◌, ◌-◌, ◌^◌, Bool, true, false, if◌then◌else◌, Some, None, Ok, List, [], ◌∷◌, ◌++◌, length, drop, take, refl, sym, ◌∙◌, ap, ◌⊎◌, ◌≢◌, inl, inr, append_assoc, length-append, arith, cond, nat_le, decimal}
 use Rattle.std.proofs.lemmas.Bool.{le-leb}
 use Rattle.std.proofs.lemmas.Bool.Decides.{nat_tests, eqb_tells}
 use Rattle.std.proofs.lemmas.List.{drop_at}
@@ -13,14 +13,14 @@ use Rattle.std.proofs.lemmas.Fmt.{digits_decimal, digits_value-decimal, decimal_
 use Rattle.std.proofs.lemmas.Str.Parse.{IsNumeralModel, numerals_by_value, tells_all_ascii_digits}
 use Rattle.std.proofs.Math.Seq.{take-append_seam}
 use Rattle.gx_tokens.specs.Limits.{most_word_bytes, most_text_bytes, most_number}
-use Rattle.gx_tokens.specs.declared.symbol.Symbol.{Symbol}
-use Rattle.gx_tokens.specs.declared.symbol.Symbol.TheVariants as symbols
 use Rattle.gx_tokens.specs.Toks.{Tok, word, number, quoted, symbol}
 use Rattle.gx_tokens.specs.Symbols.{spelling, paired, with_equals}
 use Rattle.gx_tokens.specs.Quotes.{quoted_from}
 use Rattle.gx_tokens.specs.Lexing.{before, gap_at, is_space, is_word_byte, lexed_from, quoted_at, token_at, word_at, number_at}
 use Rattle.gx_tokens.specs.Proper.{IsWord, IsProper}
 use Rattle.gx_tokens.specs.Spacing.{escape, escapes, text_of}
+use Rattle.gx_tokens.specs.declared.symbol.Symbol.{Symbol}
+use Rattle.gx_tokens.specs.declared.symbol.Symbol.TheVariants as symbols
 use Rattle.gx_tokens.proofs.LexingLemmas.{lexed_from-drop}
 
 -- the text does not begin with a byte that passes

@@ -4,13 +4,13 @@ use Rattle.std.specs.Char.{is_ascii_alphabetic, is_ascii_alphanumeric, is_ascii_
 use Rattle.std.specs.List.{prefix_len}
 use Rattle.std.specs.Str.Parse.{digits_value}
 use Rattle.gx_tokens.specs.Limits.{most_word_bytes, most_text_bytes, most_number}
+use Rattle.gx_tokens.specs.Quotes.{quoted_from}
+use Rattle.gx_tokens.specs.Symbols.{spelling, symbol_at}
+use Rattle.gx_tokens.specs.Toks.{Tok, word, number, quoted, symbol, Ending, whole, broken, Lexed}
 use Rattle.gx_tokens.specs.declared.symbol.Symbol.{Symbol}
 use Rattle.gx_tokens.specs.declared.symbol.Symbol.TheVariants as symbols
 use Rattle.gx_tokens.specs.declared.syntax_kind.SyntaxKind.{SyntaxKind}
 use Rattle.gx_tokens.specs.declared.syntax_kind.SyntaxKind.TheVariants.{NotToken, TextOpen, TextLong, NameLong, NumberLarge}
-use Rattle.gx_tokens.specs.Quotes.{quoted_from}
-use Rattle.gx_tokens.specs.Symbols.{spelling, symbol_at}
-use Rattle.gx_tokens.specs.Toks.{Tok, word, number, quoted, symbol, Ending, whole, broken, Lexed}
 
 -- white space: space, tab, line feed, carriage return
 abbrev pub is_space : ℕ → Bool

@@ -1,11 +1,11 @@
 -- The answers of a reader that takes a script's tokens one by one.
 use Rattle.std.specs.Prelude.{◌≡◌, ℕ, ◌+◌, ◌≤◌, ◌<◌, length, drop, take, Option, None, Some, Result, Ok, Err}
-use Rattle.gx_tokens.specs.declared.syntax_kind.SyntaxKind.{SyntaxKind}
-use Rattle.gx_tokens.specs.declared.token.Token.{Token}
 use Rattle.gx_tokens.specs.Left.{Left}
 use Rattle.gx_tokens.specs.Lexing.{before, no_more}
 use Rattle.gx_tokens.specs.Toks.{Tok, whole, broken}
 use Rattle.gx_tokens.specs.TokenTexts.{Means}
+use Rattle.gx_tokens.specs.declared.syntax_kind.SyntaxKind.{SyntaxKind}
+use Rattle.gx_tokens.specs.declared.token.Token.{Token}
 
 -- a token that is taken: the first of those that were left
 pub record IsTaken (old new : Left) (token : Token) : Type 0 where

@@ -1,6 +1,10 @@
 -- Tokens and the slices of a script that they are.
 use Rattle.std.specs.Prelude.{◌≡◌, ℕ, ◌+◌, ◌-◌, ◌≤◌, ◌<◌, List, [], ◌∷◌, ◌++◌, length, map, drop, take, slice_index, Result, Ok, Err}
 use Rattle.std.specs.Str.Parse.{digits_value}
+use Rattle.gx_tokens.specs.Lexing.{before, left_at, no_more}
+use Rattle.gx_tokens.specs.Quotes.{unescaped}
+use Rattle.gx_tokens.specs.Symbols.{spelling}
+use Rattle.gx_tokens.specs.Toks.{Lexed, Tok, word, number, quoted, symbol, Ending, whole, broken}
 use Rattle.gx_tokens.specs.declared.lexeme.Lexeme.{Lexeme}
 use Rattle.gx_tokens.specs.declared.lexeme.Lexeme.TheVariants as lexemes
 use Rattle.gx_tokens.specs.declared.lexeme.Placed.{Placed}
@@ -12,10 +16,6 @@ use Rattle.gx_tokens.specs.declared.reader.Next.TheVariants as nexts
 use Rattle.gx_tokens.specs.declared.syntax_kind.SyntaxKind.{SyntaxKind}
 use Rattle.gx_tokens.specs.declared.token.TokenKind.{TokenKind}
 use Rattle.gx_tokens.specs.declared.token.TokenKind.TheVariants as kinds
-use Rattle.gx_tokens.specs.Lexing.{before, left_at, no_more}
-use Rattle.gx_tokens.specs.Quotes.{unescaped}
-use Rattle.gx_tokens.specs.Symbols.{spelling}
-use Rattle.gx_tokens.specs.Toks.{Lexed, Tok, word, number, quoted, symbol, Ending, whole, broken}
 
 -- the token that a lexeme is
 abbrev pub tok_of : Lexeme → Tok

@@ -1,10 +1,7 @@
-use Rattle.std.proofs.Common.{◌≡◌, ◌∙◌, Ok, Err, List, [], length, arith, sym, ap, subst}
+use Rattle.std.proofs.Common.{◌≡◌, Err, [], arith}
 use Rattle.gx_grammar.specs.Halts.{toks_of}
 use Rattle.gx_grammar.proofs.Positions.{toks_length}
-use Rattle.gx_grammar.proofs.Readers.{ok_same}
-use Rattle.gx_grammar.specs.declared.tree.stmt.Stmt.{Stmt}
 use Rattle.gx_statements.specs.Forms.{script}
-use Rattle.gx_statements.specs.Refusals.{AreRefusedAt}
 use Rattle.gx_statements.proofs.Refusals.{both, reads_each, spells_all, is_refused, left_few, same_script}
 use Rattle.gx_statements.proofs.read.read_script.Goals as goal
 

@@ -1,6 +1,6 @@
-use Rattle.std.proofs.Common.{◌≡◌, subst}
 use Rattle.std.specs.Prelude.{IsCharBoundary}
 use Rattle.std.specs.List.{prefix_len}
+use Rattle.std.proofs.Common.{◌≡◌, subst}
 use Rattle.gx_tokens.specs.Quotes.{is_plain}
 use Rattle.gx_tokens.proofs.QuoteLemmas.{plain-boundary}
 use Rattle.gx_tokens.proofs.escapes.split_plain.Goals as goal

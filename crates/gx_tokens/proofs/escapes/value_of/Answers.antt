@@ -1,5 +1,5 @@
-use Rattle.std.proofs.Common.{◌≡◌, ◌∙◌, ◌++◌, arith, rules, sym}
 use Rattle.std.specs.Prelude.{string_bytes}
+use Rattle.std.proofs.Common.{◌≡◌, ◌∙◌, ◌++◌, arith, rules, sym}
 use Rattle.std.proofs.lemmas.Bool.{eqb-false, eqb-true}
 use Rattle.gx_tokens.proofs.QuoteLemmas.{escape-begins, value-done, value-more}
 use Rattle.gx_tokens.proofs.escapes.value_of.Goals as goal

@@ -1,7 +1,7 @@
 use denote.Shadow.{shadow}
 use denote.Text.{Utf8}
-use Rattle.std.proofs.Common.{◌≡◌, ◌++◌, false, length}
 use Rattle.std.specs.Prelude.{string_bytes}
+use Rattle.std.proofs.Common.{◌≡◌, ◌++◌, false, length}
 use Rattle.gx_tokens.specs.Quotes.{unescaped_from}
 use Rattle.gx_tokens.proofs.escapes.value_of.Given as goal
 

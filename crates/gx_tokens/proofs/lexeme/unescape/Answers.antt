@@ -1,5 +1,5 @@
-use Rattle.std.proofs.Common.{◌≡◌, length}
 use Rattle.std.specs.List.{prefix_len}
+use Rattle.std.proofs.Common.{◌≡◌, length}
 use Rattle.gx_tokens.specs.Quotes.{is_plain, unescaped}
 use Rattle.gx_tokens.proofs.QuoteLemmas.{unescaped-all}
 use Rattle.gx_tokens.proofs.lexeme.unescape.Goals as goal

@@ -1,5 +1,5 @@
-use Rattle.std.proofs.Common.{◌≡◌, ◌∙◌, ◌++◌, ◌<◌, ap, arith, rules, drop, get_or, length, subst}
 use Rattle.std.specs.Prelude.{string_bytes, IsUtf8}
+use Rattle.std.proofs.Common.{◌≡◌, ◌∙◌, ◌++◌, ◌<◌, ap, arith, rules, drop, get_or, length, subst}
 use Rattle.std.proofs.lemmas.Str.{IsCharBoundary-after_ascii}
 use Rattle.gx_tokens.specs.Spacing.{escape}
 use Rattle.gx_tokens.proofs.EscapeLemmas.{escaped-done, escaped-more, special-first, special-low}

@@ -1,7 +1,7 @@
 use denote.Shadow.{shadow}
 use denote.Text.{Utf8}
-use Rattle.std.proofs.Common.{◌≡◌, ◌++◌, length}
 use Rattle.std.specs.Prelude.{string_bytes}
+use Rattle.std.proofs.Common.{◌≡◌, ◌++◌, length}
 use Rattle.gx_tokens.specs.Spacing.{escapes}
 use Rattle.gx_tokens.proofs.quotation.put_escaped.Given as goal
 

@@ -1,6 +1,6 @@
-use Rattle.std.proofs.Common.{◌≡◌, subst}
 use Rattle.std.specs.Prelude.{IsCharBoundary}
 use Rattle.std.specs.List.{prefix_len}
+use Rattle.std.proofs.Common.{◌≡◌, subst}
 use Rattle.gx_tokens.specs.Spacing.{is_plain}
 use Rattle.gx_tokens.proofs.EscapeLemmas.{plain-boundary}
 use Rattle.gx_tokens.proofs.quotation.split_plain.Goals as goal

@@ -1,6 +1,6 @@
-use Rattle.std.proofs.Common.{◌≡◌, drop, subst, sym}
 use Rattle.std.specs.Char.{is_ascii_digit}
 use Rattle.std.specs.List.{prefix_len}
+use Rattle.std.proofs.Common.{◌≡◌, drop, subst, sym}
 use Rattle.gx_tokens.specs.TokenTexts.{IsEdged}
 use Rattle.gx_tokens.proofs.ReaderLemmas.{all_digits, digits-edged, front_of, number-found, number-large}
 use Rattle.gx_tokens.proofs.reader.number.Goals as goal

@@ -1,5 +1,5 @@
-use Rattle.std.proofs.Common.{◌≡◌, ◌≢◌, get_or, true, false}
 use Rattle.std.specs.Char.{is_ascii_alphabetic, is_ascii_digit}
+use Rattle.std.proofs.Common.{◌≡◌, ◌≢◌, get_or, true, false}
 use Rattle.gx_tokens.proofs.ReaderLemmas.{token-number, token-quoted, token-symbol, token-word}
 use Rattle.gx_tokens.proofs.reader.token.Goals as goal
 

@@ -1,5 +1,5 @@
-use Rattle.std.proofs.Common.{◌≡◌, arith, drop, subst, sym}
 use Rattle.std.specs.List.{prefix_len}
+use Rattle.std.proofs.Common.{◌≡◌, arith, drop, subst, sym}
 use Rattle.gx_tokens.specs.Lexing.{is_word_byte}
 use Rattle.gx_tokens.specs.TokenTexts.{IsEdged}
 use Rattle.gx_tokens.proofs.ReaderLemmas.{front_of, word-edged, word-found, word-long}

@@ -1,11 +1,11 @@
 -- Each turn of the loop, and how it ends.
-use Rattle.std.proofs.Common.{◌≡◌, ◌∷◌, [], ◌++◌, ◌∙◌, ◌-◌, ◌+◌, ◌<◌, ◌≤◌, suc, sym, ap, length, arith, codes}
+use Rattle.std.proofs.Common.{◌≡◌, ◌∷◌, [], ◌++◌, ◌∙◌, ◌-◌, ◌+◌, ◌<◌, ◌≤◌, sym, ap, length, arith}
 use Rattle.gx_grammar.specs.Halts.{toks_of}
-use Rattle.gx_statements.specs.Marks.{is_sign, is_word, sign}
-use Rattle.gx_statements.specs.Parts.{further, a_send}
-use Rattle.gx_grammar.specs.Readers.{many, mapped, one, repeated, seq}
-use Rattle.gx_statements.specs.declared.signs.Sign.TheVariants as signs
+use Rattle.gx_grammar.specs.Readers.{many, mapped, one, seq}
 use Rattle.gx_grammar.proofs.Positions.{toks_length}
+use Rattle.gx_statements.specs.Marks.{is_sign, sign}
+use Rattle.gx_statements.specs.Parts.{further}
+use Rattle.gx_statements.specs.declared.signs.Sign.TheVariants as signs
 use Rattle.gx_statements.proofs.Loops.{joined, loop_begins, loop_goes, loop_ends, loop_halts, loop_stops}
 use Rattle.gx_statements.proofs.cursor.Cursor.further.Goals as goal
 

@@ -1,10 +1,9 @@
 -- Each turn of the loop, and how it ends.
-use Rattle.std.proofs.Common.{◌≡◌, ◌∷◌, [], ◌++◌, ◌∙◌, ◌-◌, ◌+◌, ◌<◌, ◌≤◌, suc, sym, ap, length, arith, true}
+use Rattle.std.proofs.Common.{◌∙◌, ◌-◌, ◌+◌, ◌<◌, ◌≤◌, sym, ap, length, arith, true}
 use Rattle.gx_grammar.specs.Halts.{toks_of}
-use Rattle.gx_statements.specs.Forms.{script, sentence}
-use Rattle.gx_grammar.specs.Readers.{many, mapped, one, repeated, seq}
-use Rattle.gx_statements.specs.declared.signs.Sign.TheVariants as signs
+use Rattle.gx_grammar.specs.Readers.{many}
 use Rattle.gx_grammar.proofs.Positions.{toks_length}
+use Rattle.gx_statements.specs.Forms.{script, sentence}
 use Rattle.gx_statements.proofs.Loops.{joined, loop_opens, loop_goes, loop_ends, loop_halts, loop_stops}
 use Rattle.gx_statements.proofs.cursor.Cursor.script.Goals as goal
 

@@ -1,8 +1,8 @@
 -- What was found, and what the tokens that are left give, is what all of them give.
 use Rattle.std.proofs.Common.{◌≡◌, ◌-◌, true}
-use Rattle.gx_statements.specs.Forms.{script, sentence}
 use Rattle.gx_grammar.specs.Halts.{toks_of}
 use Rattle.gx_grammar.specs.Readers.{many}
+use Rattle.gx_statements.specs.Forms.{script, sentence}
 use Rattle.gx_statements.proofs.Loops.{joined}
 use Rattle.gx_statements.proofs.cursor.Cursor.script.Given as goal
 
