@@ -2,7 +2,7 @@
 use Rattle.std.specs.Prelude.{◌≡◌, ℕ, Option, None, Some, Result, Ok, Err, List, [], ◌∷◌, ◌++◌, map}
 use Rattle.gx_tokens.specs.Lexing.{lexed}
 use Rattle.gx_tokens.specs.Spacing.{toks}
-use Rattle.gx_tokens.specs.Toks.{Tok, Ending, whole, broken, Lexed}
+use Rattle.gx_tokens.specs.Toks.{Tok, whole, broken, Lexed}
 use Rattle.gx_tokens.specs.declared.syntax_kind.SyntaxKind.{SyntaxKind}
 use Rattle.gx_tokens.specs.declared.syntax_kind.SyntaxKind.TheVariants.{Unexpected}
 use Rattle.gx_grammar.specs.Readers.{Begun}

@@ -1,13 +1,15 @@
 //! The script language: texts to scripts, and scripts to their canonical spelling.
 #![tactic(auto)]
 
-mod parse;
+mod laws;
+mod parser;
 mod syntax_stop;
 
 pub use gx_grammar::{
-    ActiveWord, Binary, Column, Const, CutWord, Expr, Merge, MergeWord, NamedConst, NeighbourWord, Script, Send, Set,
-    SideWord, Stmt, Unary,
+    ActiveWord, Binary, Column, Const, CutWord, Expr, Merge, MergeWord, NamedConst, NeighbourWord,
+    Script, Send, Set, SideWord, Stmt, Unary,
 };
 pub use gx_tokens::{SyntaxKind, Token, TokenKind, Tokens};
-pub use parse::parse;
+pub use laws::texts_have_one_meaning;
+pub use parser::parse;
 pub use syntax_stop::SyntaxStop;
