@@ -1,4 +1,8 @@
+pub mod EntryLemmas
+pub mod ExpressionLemmas
 pub mod ListedLemmas
+pub mod PiecesLemmas
+pub mod ScriptLemmas
 pub mod ShortLemmas
 pub mod ShownEntries
 pub mod ShownForms

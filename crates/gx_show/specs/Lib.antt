@@ -1,3 +1,4 @@
 pub mod Shown
 pub mod ShownForms
 pub mod ShownScripts
+pub mod Putting

@@ -1,0 +1,57 @@
+//! Statements that read files, and those that make graphs of what was read.
+
+ghost use Rattle.std.specs.Prelude.{◌≡◌, OnOk};
+ghost use Rattle.gx_show.specs.Putting.{begun};
+ghost use Rattle.gx_statements.specs.declared.heads.Head.TheVariants as heads;
+ghost use Rattle.gx_tokens.specs.Writing.{with_pieces};
+
+use crate::entries::put_entries;
+use crate::sends::put_oriented;
+use gx_grammar::Column;
+use gx_rows::{NoMemory, Text};
+use gx_tokens::Writer;
+use sqlite_items::Items;
+
+/// Writes `WORD NAME from FILE columns`.
+///
+/// # Errors
+///
+/// `NoMemory` where there is no room for it.
+#[tactic(auto, using(crate::proofs::PiecesLemmas::pieces_append))]
+pub(crate) fn put_load(
+    out: &mut Writer,
+    word: &str,
+    name: &Text,
+    file: &Text,
+    columns: &Items<Column>,
+) -> Result<(), NoMemory>
+    ensures { OnOk result (out.new ≡ with_pieces out.old (begun word.now heads.Vertices (name.now, (file.now, (columns.now, tt))))) }
+{
+    out.word(word)?;
+    out.word(name.as_str())?;
+    out.word("from")?;
+    out.quoted(file.as_str())?;
+    put_entries(out, columns)
+}
+
+/// Writes `WORD NAME from FILE [oriented]`.
+///
+/// # Errors
+///
+/// `NoMemory`.
+#[tactic(auto, using(crate::proofs::PiecesLemmas::pieces_append))]
+pub(crate) fn put_edge_list(
+    out: &mut Writer,
+    word: &str,
+    name: &Text,
+    file: &Text,
+    oriented: bool,
+) -> Result<(), NoMemory>
+    ensures { OnOk result (out.new ≡ with_pieces out.old (begun word.now heads.EdgeList (name.now, (file.now, (oriented, tt))))) }
+{
+    out.word(word)?;
+    out.word(name.as_str())?;
+    out.word("from")?;
+    out.quoted(file.as_str())?;
+    put_oriented(out, oriented)
+}
