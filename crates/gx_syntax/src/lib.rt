@@ -3,6 +3,8 @@
 
 mod parse;
 mod syntax_stop;
+#[cfg(test)]
+mod tests;
 
 pub use gx_grammar::{
     ActiveWord, Binary, Column, Const, CutWord, Expr, Merge, MergeWord, NamedConst, NeighbourWord, Script, Send, Set,
