@@ -5,6 +5,8 @@ mod laws;
 mod parser;
 mod shown_back;
 mod syntax_stop;
+#[cfg(test)]
+mod tests;
 
 pub use gx_grammar::{
     ActiveWord, Binary, Column, Const, CutWord, Expr, Merge, MergeWord, NamedConst, NeighbourWord,
