@@ -18,6 +18,10 @@ pub(crate) trait Entry {
     ghost shown: { Self → List Piece };
 
     /// Writes the entry.
+    ///
+    /// # Errors
+    ///
+    /// `NoMemory` where there is no room for it.
     fn put(&self, out: &mut Writer) -> Result<(), NoMemory>
         ensures { OnOk result (out.new ≡ with_pieces out.old (shown self.now)) };
 }
@@ -103,6 +107,8 @@ fn put_int(out: &mut Writer, number: i64) -> Result<(), NoMemory>
 /// # Errors
 ///
 /// `NoMemory` where there is no room for it.
+// The list is taken as a tree holds it: `put_expression` calls this for the arguments of a call, and
+// a slice would hide from the check that they are parts of the call.
 pub(crate) fn put_entries<E: Entry>(out: &mut Writer, entries: &Items<E>) -> Result<(), NoMemory>
     ensures { OnOk result (out.new ≡ with_pieces out.old (enclosed E.shown entries.now)) }
 {

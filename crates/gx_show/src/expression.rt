@@ -1,9 +1,9 @@
 //! Expressions.
 
-ghost use Rattle.std.specs.Prelude.{◌≡◌, ◌≤◌, OnOk, codes};
+ghost use Rattle.std.specs.Prelude.{◌≡◌, OnOk};
 ghost use Rattle.gx_grammar.specs.Operators as grammar;
-ghost use Rattle.gx_show.specs.Shown.{enclosed, listed_on, piece_before, pieces};
 ghost use Rattle.gx_show.specs.Putting.{with_close, with_open};
+ghost use Rattle.gx_show.specs.Shown.{piece_before, pieces};
 ghost use Rattle.gx_tokens.specs.Spacing as spacing;
 ghost use Rattle.gx_tokens.specs.Writing.{with_piece, with_pieces};
 
@@ -14,7 +14,7 @@ use gx_rows::NoMemory;
 use gx_tokens::{Symbol, Writer};
 
 // Writes the parenthesis before an operation of a level, where one is needed.
-fn open(out: &mut Writer, wanted: u8, level: u8) -> Result<(), NoMemory>
+fn put_open(out: &mut Writer, wanted: u8, level: u8) -> Result<(), NoMemory>
     ensures { OnOk result (out.new ≡ with_open wanted level out.old) }
 {
     if wanted <= level {
@@ -24,7 +24,7 @@ fn open(out: &mut Writer, wanted: u8, level: u8) -> Result<(), NoMemory>
 }
 
 // Writes the parenthesis behind it.
-fn close(out: &mut Writer, wanted: u8, level: u8) -> Result<(), NoMemory>
+fn put_close(out: &mut Writer, wanted: u8, level: u8) -> Result<(), NoMemory>
     ensures { OnOk result (out.new ≡ with_close wanted level out.old) }
 {
     if wanted <= level {
@@ -93,17 +93,17 @@ pub(crate) fn put_expression(
             put_entries(out, arguments)
         }
         Expr::Unary(operator, operand) => {
-            open(out, wanted, outer(*operator))?;
+            put_open(out, wanted, outer(*operator))?;
             put_before(out, *operator)?;
             put_expression(out, operand.get(), inner(*operator))?;
-            close(out, wanted, outer(*operator))
+            put_close(out, wanted, outer(*operator))
         }
         Expr::Binary(operator, front, behind) => {
-            open(out, wanted, level(*operator))?;
+            put_open(out, wanted, level(*operator))?;
             put_expression(out, front.get(), left(*operator))?;
             put_between(out, *operator)?;
             put_expression(out, behind.get(), right(*operator))?;
-            close(out, wanted, level(*operator))
+            put_close(out, wanted, level(*operator))
         }
     }
 }

@@ -34,3 +34,95 @@ pub fn show(alloc: Global, script: &Script) -> Result<Text, NoMemory>
     }
     out.text(alloc)
 }
+
+#[cfg(test)]
+mod tests {
+    use super::*;
+    use gx_grammar::{Binary, Const, Expr, NamedConst, Unary};
+    use sqlite_items::{Boxed, Items};
+    use std::test::Fail;
+
+    fn column(alloc: Global, name: &str) -> Result<Expr, NoMemory> {
+        Ok(Expr::Column(Text::of(alloc, "v")?, Text::of(alloc, name)?))
+    }
+
+    fn unary(alloc: Global, operator: Unary, operand: Expr) -> Result<Expr, NoMemory> {
+        Ok(Expr::Unary(operator, Boxed::new(alloc, operand)?))
+    }
+
+    fn binary(
+        alloc: Global,
+        operator: Binary,
+        front: Expr,
+        behind: Expr,
+    ) -> Result<Expr, NoMemory> {
+        let front = Boxed::new(alloc, front)?;
+        let behind = Boxed::new(alloc, behind)?;
+        Ok(Expr::Binary(operator, front, behind))
+    }
+
+    // The larger of two columns, with its sign turned, plus a number: less than a product of sums.
+    fn condition(alloc: Global) -> Result<Expr, NoMemory> {
+        let mut arguments = Items::new(alloc);
+        arguments.push(column(alloc, "x")?)?;
+        arguments.push(column(alloc, "y")?)?;
+        let call = Expr::Call(Text::of(alloc, "max")?, arguments);
+        let turned = unary(alloc, Unary::Minus, call)?;
+        let front = binary(alloc, Binary::Plus, turned, Expr::Number(1))?;
+        let sum = binary(alloc, Binary::Minus, Expr::Number(2), Expr::Number(3))?;
+        let behind = binary(alloc, Binary::Times, sum, Expr::Number(4))?;
+        let less = binary(alloc, Binary::Less, front, behind)?;
+        let matched = unary(alloc, Unary::Not, Expr::Matched)?;
+        binary(alloc, Binary::Or, less, matched)
+    }
+
+    fn row(alloc: Global) -> Result<Items<NamedConst>, NoMemory> {
+        let mut row = Items::new(alloc);
+        let values = [
+            ("n", Const::Number(-7)),
+            ("t", Const::Quoted(Text::of(alloc, "a \"b\"\n")?)),
+            ("b", Const::Truth(true)),
+            ("i", Const::NoIds),
+        ];
+        for (name, value) in values {
+            let name = Text::of(alloc, name)?;
+            row.push(NamedConst { name, value })?;
+        }
+        Ok(row)
+    }
+
+    fn script(alloc: Global) -> Result<Script, NoMemory> {
+        let mut statements = Items::new(alloc);
+        statements.push(Stmt::FromEdges {
+            name: Text::of(alloc, "g")?,
+            edges: Text::of(alloc, "e")?,
+            row: row(alloc)?,
+        })?;
+        statements.push(Stmt::Filter {
+            name: Text::of(alloc, "t")?,
+            table: Text::of(alloc, "s")?,
+            condition: condition(alloc)?,
+        })?;
+        let table = Text::of(alloc, "t")?;
+        statements.push(Stmt::PrintTable { table })?;
+        Ok(Script { statements })
+    }
+
+    #[test]
+    fn shows_each_statement_on_its_line(rt: HostRuntime) -> Result<(), Fail> {
+        let shown = show(rt.alloc(), &script(rt.alloc())?)?;
+        let expected = "fromedges g = e (n: -7, t: \"a \\\"b\\\"\\n\", b: true, i: ids());\n\
+            filter t = s where -max(v.x, v.y) + 1 < (2 - 3) * 4 or not matched;\n\
+            print table t;\n";
+        assert_eq!(rt; shown.as_str(), expected);
+        Ok(())
+    }
+
+    #[test]
+    fn shows_nothing_of_an_empty_script(rt: HostRuntime) -> Result<(), Fail> {
+        let statements = Items::new(rt.alloc());
+        let shown = show(rt.alloc(), &Script { statements })?;
+        assert_eq!(rt; shown.as_str(), "");
+        Ok(())
+    }
+}

@@ -1,6 +1,6 @@
 //! Statements.
 
-ghost use Rattle.std.specs.Prelude.{◌≡◌, [], ◌∷◌, OnOk};
+ghost use Rattle.std.specs.Prelude.{◌≡◌, ◌∷◌, OnOk};
 ghost use Rattle.gx_show.specs.ShownForms.{a_word, stmt_pieces};
 ghost use Rattle.gx_tokens.specs.Spacing as pieces;
 ghost use Rattle.gx_tokens.specs.Toks as toks;
