@@ -4,23 +4,23 @@ use Rattle.std.proofs.lemmas.List.{append-nil}
 use Rattle.gx_tokens.specs.Toks.{Tok, word, number, quoted, symbol}
 use Rattle.gx_tokens.specs.Spacing.{Piece, tok}
 use Rattle.gx_tokens.specs.declared.symbol.Symbol.TheVariants as symbols
+use Rattle.gx_tokens.specs.declared.symbol.Symbol.{Symbol}
+use Rattle.gx_grammar.specs.Operators.{spelled}
+use Rattle.gx_grammar.specs.Grammar.{Spells, above, between, before, constant, quotation, yes, no, matching, column, call, group, SpellsArguments, none, some, SpellsFront, start, onward}
+use Rattle.gx_grammar.specs.Readers.{One}
+use Rattle.gx_grammar.specs.Grammar.{fits}
 use Rattle.gx_grammar.specs.declared.tree.expr.Expr.{Expr}
 use Rattle.gx_grammar.specs.declared.tree.expr.Unary.TheVariants as unary
 use Rattle.gx_grammar.specs.declared.tree.expr.Binary.{Binary}
 use Rattle.gx_grammar.specs.declared.tree.expr.Binary.TheVariants as binary
 use Rattle.gx_grammar.specs.declared.tree.constant.Const.{Const}
 use Rattle.gx_grammar.specs.declared.tree.constant.Const.TheVariants as consts
-use Rattle.gx_statements.specs.declared.entries.ConstHead.{ConstHead}
-use Rattle.gx_statements.specs.declared.entries.ConstHead.TheVariants as heads
-use Rattle.gx_statements.specs.declared.signs.Sign.TheVariants as signs
-use Rattle.gx_tokens.specs.declared.symbol.Symbol.{Symbol}
-use Rattle.gx_grammar.specs.Operators.{spelled}
-use Rattle.gx_grammar.specs.Grammar.{Spells, above, between, before, constant, quotation, yes, no, matching, column, call, group, SpellsArguments, none, some, SpellsFront, start, onward}
-use Rattle.gx_grammar.specs.Readers.{One}
 use Rattle.gx_statements.specs.Marks.{is_semicolon}
 use Rattle.gx_statements.specs.Parts as parts
 use Rattle.gx_statements.specs.Parts.{quoted_value, number_value, meant, kind_of, merge_of, truth_word, const_head, ConstTail, negative, SpellsConst, SpellsColumn, SpellsSet, SpellsMerge, SpellsNamed, Listed}
-use Rattle.gx_grammar.specs.Grammar.{fits}
+use Rattle.gx_statements.specs.declared.entries.ConstHead.{ConstHead}
+use Rattle.gx_statements.specs.declared.entries.ConstHead.TheVariants as heads
+use Rattle.gx_statements.specs.declared.signs.Sign.TheVariants as signs
 use Rattle.gx_show.specs.Shown.{shown, enclosed, magnitude}
 use Rattle.gx_show.specs.ShownForms.{kind_word, merge_word, column_pieces, set_pieces, merge_pieces, named_pieces, const_pieces}
 use Rattle.gx_show.proofs.ListedLemmas.{enclosed-tok}

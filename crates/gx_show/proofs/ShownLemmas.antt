@@ -3,14 +3,10 @@ use Rattle.std.proofs.Common.{◌≡◌, ℕ, ◌≤◌, ◌+◌, Bool, true, fa
 use Rattle.std.proofs.lemmas.Bool.{leb-true, le-leb}
 use Rattle.std.proofs.lemmas.List.{map-append}
 use Rattle.gx_tokens.specs.Toks.{Tok, word, number, quoted, symbol}
+use Rattle.gx_tokens.specs.Spacing.{Piece, token, tok, AreProper, AreProperToks}
+use Rattle.gx_tokens.specs.declared.symbol.Symbol.TheVariants as symbols
 use Rattle.gx_grammar.specs.Operators.{level, left, right, outer, inner, spelled, spelled_before}
 use Rattle.gx_grammar.specs.Grammar.{number_of, quoted_of, truth_of, matched_of, column_of, call_of, unary_of, binary_of, Spells, above, between, before, constant, quotation, yes, no, matching, column, call, group, SpellsArguments, none, some, SpellsFront, start, onward}
-use Rattle.gx_show.specs.Shown.{piece_before, shown_layer, pieces, shown, ShowsWhatIsSpelled, ShowsFewest, ShowsProper}
-use Rattle.gx_show.specs.Shown as p
-use Rattle.gx_show.proofs.ListedLemmas.{listed, fronted, enclosed-tok, listed-map, fronted-last, listed-last}
-use Rattle.gx_tokens.specs.Spacing.{Piece, token, tok, AreProper, AreProperToks}
-use Rattle.gx_grammar.proofs.Levels.{left-high, right-high, inner-high, lowered}
-use Rattle.gx_tokens.specs.declared.symbol.Symbol.TheVariants as symbols
 use Rattle.gx_grammar.specs.declared.tree.expr.Expr.{Expr, roll-Expr, map-Expr}
 use Rattle.gx_grammar.specs.declared.tree.expr.Expr.TheOpen.{Expr-F}
 use Rattle.gx_grammar.specs.declared.tree.expr.Expr.TheOpen as layer
@@ -19,6 +15,10 @@ use Rattle.gx_grammar.specs.declared.tree.expr.Binary.{Binary}
 use Rattle.gx_grammar.specs.declared.tree.expr.Unary.{Unary}
 use Rattle.gx_grammar.specs.declared.tree.expr.Binary.TheVariants as binary
 use Rattle.gx_grammar.specs.declared.tree.expr.Unary.TheVariants as unary
+use Rattle.gx_grammar.proofs.Levels.{left-high, right-high, inner-high, lowered}
+use Rattle.gx_show.specs.Shown.{piece_before, shown_layer, pieces, shown, ShowsWhatIsSpelled, ShowsFewest, ShowsProper}
+use Rattle.gx_show.specs.Shown as p
+use Rattle.gx_show.proofs.ListedLemmas.{listed, fronted, enclosed-tok, listed-map, fronted-last, listed-last}
 
 -- the same over tokens
 abbrev pub grouped : ℕ → ℕ → List Tok → List Tok

@@ -3,6 +3,8 @@ use Rattle.std.proofs.Common.{◌≡◌, ℕ, Bool, true, false, if◌then◌els
 use Rattle.std.proofs.lemmas.Slice.Eq.{bytes_eq-Decides}
 use Rattle.gx_rows.specs.declared.value.ValueKind.{ValueKind}
 use Rattle.gx_rows.specs.declared.value.ValueKind.TheVariants as kinds
+use Rattle.gx_tokens.specs.Toks.{Tok, word, number, quoted, symbol}
+use Rattle.gx_grammar.specs.Readers.{One}
 use Rattle.gx_grammar.specs.declared.tree.words.ActiveWord.{ActiveWord}
 use Rattle.gx_grammar.specs.declared.tree.words.ActiveWord.TheVariants as actives
 use Rattle.gx_grammar.specs.declared.tree.words.CutWord.{CutWord}
@@ -13,16 +15,14 @@ use Rattle.gx_grammar.specs.declared.tree.words.NeighbourWord.{NeighbourWord}
 use Rattle.gx_grammar.specs.declared.tree.words.NeighbourWord.TheVariants as neighbours
 use Rattle.gx_grammar.specs.declared.tree.words.SideWord.{SideWord}
 use Rattle.gx_grammar.specs.declared.tree.words.SideWord.TheVariants as sides
+use Rattle.gx_statements.specs.Parts.{meant, kind_of, cut_of, merge_of, side_of, neighbour_of, active_of}
+use Rattle.gx_statements.specs.Forms.{printed_of, counted_of, table_head, send_head, graph_head, load_head}
 use Rattle.gx_statements.specs.declared.heads.Head.{Head}
 use Rattle.gx_statements.specs.declared.heads.Head.TheVariants as heads
 use Rattle.gx_statements.specs.declared.heads.Printed.{Printed}
 use Rattle.gx_statements.specs.declared.heads.Printed.TheVariants as prints
 use Rattle.gx_statements.specs.declared.heads.Counted.{Counted}
 use Rattle.gx_statements.specs.declared.heads.Counted.TheVariants as counts
-use Rattle.gx_tokens.specs.Toks.{Tok, word, number, quoted, symbol}
-use Rattle.gx_grammar.specs.Readers.{One}
-use Rattle.gx_statements.specs.Parts.{meant, kind_of, cut_of, merge_of, side_of, neighbour_of, active_of}
-use Rattle.gx_statements.specs.Forms.{printed_of, counted_of, table_head, send_head, graph_head, load_head}
 use Rattle.gx_show.specs.ShownForms.{kind_word, cut_word, merge_word, side_word, neighbour_word, active_word, printed_word, counted_word, head_word}
 use Rattle.gx_show.proofs.ShownLanguages.{some_same, one_shown, Shows}
 

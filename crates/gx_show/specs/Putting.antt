@@ -4,12 +4,12 @@ use Rattle.gx_tokens.specs.Spacing.{Piece, token}
 use Rattle.gx_tokens.specs.Toks.{word, symbol}
 use Rattle.gx_tokens.specs.Writing.{Written, with_piece}
 use Rattle.gx_tokens.specs.declared.symbol.Symbol.TheVariants as symbols
-use Rattle.gx_statements.specs.Forms.{Values, form_of, a_number, consts, sets, merges, sends, active, fin, say, part}
 use Rattle.gx_grammar.specs.declared.tree.constant.Const.{Const}
 use Rattle.gx_grammar.specs.declared.tree.parts.Merge.{Merge}
 use Rattle.gx_grammar.specs.declared.tree.parts.Send.{Send}
 use Rattle.gx_grammar.specs.declared.tree.parts.Set.{Set}
 use Rattle.gx_grammar.specs.declared.tree.words.ActiveWord.{ActiveWord}
+use Rattle.gx_statements.specs.Forms.{Values, form_of, a_number, consts, sets, merges, sends, active, fin, say, part}
 use Rattle.gx_statements.specs.declared.heads.Head.{Head}
 use Rattle.gx_show.specs.ShownForms.{form_pieces}
 

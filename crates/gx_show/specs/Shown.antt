@@ -5,7 +5,6 @@ use Rattle.gx_tokens.specs.Spacing.{Piece, token, sign, function, tok, AreProper
 use Rattle.gx_tokens.specs.declared.symbol.Symbol.TheVariants as symbols
 use Rattle.gx_grammar.specs.Operators.{level, left, right, outer, inner, spelled, not_word}
 use Rattle.gx_grammar.specs.Grammar.{Spells}
-use Rattle.gx_grammar.specs.declared.tree.expr.Binary.{Binary}
 use Rattle.gx_grammar.specs.declared.tree.expr.Unary.{Unary}
 use Rattle.gx_grammar.specs.declared.tree.expr.Unary.TheVariants as unary
 use Rattle.gx_grammar.specs.declared.tree.expr.Expr.{Expr}

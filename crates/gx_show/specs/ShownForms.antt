@@ -2,8 +2,8 @@
 use Rattle.std.specs.Prelude.{ℕ, suc, ℤ, pos, negsuc, Bool, true, false, if◌then◌else◌, Option, None, Some, List, [], ◌∷◌, ◌++◌, map, codes}
 use Rattle.gx_rows.specs.declared.value.ValueKind.{ValueKind}
 use Rattle.gx_rows.specs.declared.value.ValueKind.TheVariants as kinds
-use Rattle.gx_tokens.specs.Toks.{Tok, word, number, quoted, symbol}
-use Rattle.gx_tokens.specs.Spacing.{Piece, token, sign, function, tok, lined}
+use Rattle.gx_tokens.specs.Toks.{word, number, quoted, symbol}
+use Rattle.gx_tokens.specs.Spacing.{Piece, token, sign, function, lined}
 use Rattle.gx_tokens.specs.declared.symbol.Symbol.{Symbol}
 use Rattle.gx_tokens.specs.declared.symbol.Symbol.TheVariants as symbols
 use Rattle.gx_grammar.specs.declared.tree.constant.Const.{Const}

@@ -1,10 +1,10 @@
 //! Entries of lists, and lists in parentheses.
 
 ghost use Rattle.std.specs.Prelude.{◌≡◌, List, OnOk};
-ghost use Rattle.gx_show.specs.Shown.{enclosed, pieces};
-ghost use Rattle.gx_show.specs.ShownForms as forms;
 ghost use Rattle.gx_tokens.specs.Spacing.{Piece};
 ghost use Rattle.gx_tokens.specs.Writing.{with_pieces};
+ghost use Rattle.gx_show.specs.Shown.{enclosed, pieces};
+ghost use Rattle.gx_show.specs.ShownForms as forms;
 
 use crate::expression::put_expression;
 use crate::words::{kind_word, merge_word, truth_word};

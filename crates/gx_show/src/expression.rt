@@ -1,11 +1,11 @@
 //! Expressions.
 
 ghost use Rattle.std.specs.Prelude.{◌≡◌, OnOk};
+ghost use Rattle.gx_tokens.specs.Spacing as spacing;
+ghost use Rattle.gx_tokens.specs.Writing.{with_piece, with_pieces};
 ghost use Rattle.gx_grammar.specs.Operators as grammar;
 ghost use Rattle.gx_show.specs.Putting.{with_close, with_open};
 ghost use Rattle.gx_show.specs.Shown.{piece_before, pieces};
-ghost use Rattle.gx_tokens.specs.Spacing as spacing;
-ghost use Rattle.gx_tokens.specs.Writing.{with_piece, with_pieces};
 
 use crate::entries::put_entries;
 use crate::words::truth_word;

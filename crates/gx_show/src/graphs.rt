@@ -1,11 +1,11 @@
 //! Statements that make one graph or table of another.
 
 ghost use Rattle.std.specs.Prelude.{◌≡◌, ◌++◌, OnOk};
-ghost use Rattle.gx_show.specs.Putting.{begun};
-ghost use Rattle.gx_show.specs.Shown.{enclosed};
+ghost use Rattle.gx_tokens.specs.Writing.{with_pieces};
 ghost use Rattle.gx_statements.specs.Parts.{tested};
 ghost use Rattle.gx_statements.specs.declared.heads.Head.TheVariants as heads;
-ghost use Rattle.gx_tokens.specs.Writing.{with_pieces};
+ghost use Rattle.gx_show.specs.Putting.{begun};
+ghost use Rattle.gx_show.specs.Shown.{enclosed};
 
 use crate::entries::{Entry, put_entries};
 use crate::expression::put_expression;

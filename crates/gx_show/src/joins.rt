@@ -1,9 +1,9 @@
 //! Statements that make one graph or table of two others.
 
 ghost use Rattle.std.specs.Prelude.{◌≡◌, OnOk};
-ghost use Rattle.gx_show.specs.Putting.{begun};
-ghost use Rattle.gx_statements.specs.declared.heads.Head.TheVariants as heads;
 ghost use Rattle.gx_tokens.specs.Writing.{with_pieces};
+ghost use Rattle.gx_statements.specs.declared.heads.Head.TheVariants as heads;
+ghost use Rattle.gx_show.specs.Putting.{begun};
 
 use crate::entries::put_entries;
 use crate::graphs::put_made;

@@ -1,9 +1,9 @@
 //! Statements that read files, and those that make graphs of what was read.
 
 ghost use Rattle.std.specs.Prelude.{◌≡◌, OnOk};
-ghost use Rattle.gx_show.specs.Putting.{begun};
-ghost use Rattle.gx_statements.specs.declared.heads.Head.TheVariants as heads;
 ghost use Rattle.gx_tokens.specs.Writing.{with_pieces};
+ghost use Rattle.gx_statements.specs.declared.heads.Head.TheVariants as heads;
+ghost use Rattle.gx_show.specs.Putting.{begun};
 
 use crate::entries::put_entries;
 use crate::sends::put_oriented;

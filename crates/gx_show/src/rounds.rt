@@ -1,10 +1,10 @@
 //! Statements by which edges send messages.
 
 ghost use Rattle.std.specs.Prelude.{◌≡◌, OnOk};
+ghost use Rattle.gx_tokens.specs.Writing.{with_pieces};
+ghost use Rattle.gx_statements.specs.declared.heads.Head.TheVariants as heads;
 ghost use Rattle.gx_show.specs.Putting.{program_pieces, round_pieces};
 ghost use Rattle.gx_show.specs.ShownForms.{headed};
-ghost use Rattle.gx_statements.specs.declared.heads.Head.TheVariants as heads;
-ghost use Rattle.gx_tokens.specs.Writing.{with_pieces};
 
 use crate::entries::put_entries;
 use crate::graphs::put_made;

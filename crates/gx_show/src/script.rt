@@ -1,8 +1,8 @@
 //! Scripts.
 
 ghost use Rattle.std.specs.Prelude.{◌≡◌, IfOk, OnOk};
-ghost use Rattle.gx_show.specs.ShownForms.{line, shown_text};
 ghost use Rattle.gx_tokens.specs.Writing.{with_line_end, with_pieces};
+ghost use Rattle.gx_show.specs.ShownForms.{line, shown_text};
 
 use crate::statement::put_statement;
 use gx_grammar::{Script, Stmt};

@@ -1,8 +1,8 @@
 //! Parts of statements that may be left out or repeated.
 
 ghost use Rattle.std.specs.Prelude.{◌≡◌, OnOk};
-ghost use Rattle.gx_show.specs.ShownForms.{active_pieces, led_pieces, oriented_pieces, send_pieces, sends_pieces};
 ghost use Rattle.gx_tokens.specs.Writing.{with_pieces};
+ghost use Rattle.gx_show.specs.ShownForms.{active_pieces, led_pieces, oriented_pieces, send_pieces, sends_pieces};
 
 use crate::entries::put_entries;
 use crate::expression::put_expression;

@@ -1,10 +1,10 @@
 //! Statements.
 
 ghost use Rattle.std.specs.Prelude.{◌≡◌, ◌∷◌, OnOk};
-ghost use Rattle.gx_show.specs.ShownForms.{a_word, stmt_pieces};
 ghost use Rattle.gx_tokens.specs.Spacing as pieces;
 ghost use Rattle.gx_tokens.specs.Toks as toks;
 ghost use Rattle.gx_tokens.specs.Writing.{with_pieces};
+ghost use Rattle.gx_show.specs.ShownForms.{a_word, stmt_pieces};
 
 use crate::graphs::{put_by, put_filter, put_list, put_made, put_tests};
 use crate::joins::{put_default, put_join, put_outer_join, put_pair};

@@ -1,6 +1,6 @@
 -- What the parser's tokens mean, by what it is told of the first of them, those that are kept.
-use Rattle.std.proofs.Common.{◌≡◌, ℕ, ◌+◌, ◌<◌, ◌≤◌, IfSome, Option, None, Some, Result, Ok, Err, List, [], ◌∷◌, length, take, drop, get_or, map, refl, sym, ◌∙◌, ap, subst, arith}
 use Rattle.std.specs.Result.{IsErrAnd}
+use Rattle.std.proofs.Common.{◌≡◌, ℕ, ◌+◌, ◌<◌, ◌≤◌, IfSome, Option, None, Some, Result, Ok, Err, List, [], ◌∷◌, length, take, drop, get_or, map, refl, sym, ◌∙◌, ap, subst, arith}
 use Rattle.std.proofs.lemmas.List.{append-nil, drop-map, drop_more, take-map}
 use Rattle.gx_tokens.specs.Spacing.{toks}
 use Rattle.gx_tokens.specs.TokenTexts.{lexed_of, placed_of, tok_of}

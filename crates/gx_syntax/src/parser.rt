@@ -1,10 +1,10 @@
 //! Texts to scripts.
 
 ghost use Rattle.std.specs.Prelude.{◌≡◌, ◌<◌, ◌^◌, IfSome, length};
-ghost use Rattle.gx_syntax.specs.Behind.{EndsBehind};
-ghost use Rattle.gx_syntax.specs.Texts.{IsMeaning, said};
 ghost use Rattle.gx_tokens.specs.Lexing.{lexed};
 ghost use Rattle.gx_tokens.specs.TokenTexts.{lexed_of};
+ghost use Rattle.gx_syntax.specs.Behind.{EndsBehind};
+ghost use Rattle.gx_syntax.specs.Texts.{IsMeaning, said};
 
 use crate::SyntaxStop;
 use crate::laws::texts_have_one_meaning;

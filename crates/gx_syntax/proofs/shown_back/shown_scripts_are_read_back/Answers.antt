@@ -1,4 +1,4 @@
-use Rattle.std.proofs.Common.{◌≤◌, length, map, sym, ap, subst}
+use Rattle.std.proofs.Common.{◌≤◌, length, sym, subst}
 use Rattle.gx_tokens.specs.Lexing.{lexed}
 use Rattle.gx_tokens.specs.Spacing.{toks}
 use Rattle.gx_statements.specs.Forms.{SpellsScript}
