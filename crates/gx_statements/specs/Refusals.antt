@@ -20,10 +20,10 @@ pub record AreRefusedAt (ts : List Tok) (n : ℕ) : Type 0 where
   pub none : NoneGoesOn (take n ts) (drop n ts)
 
 -- the answer is the script that the tokens spell, or tells where they are refused
-abbrev pub Reads : List Tok → Result Script GrammarStop → Type 0
-Reads ts (Ok script) = SpellsScript ts script.statements
-Reads ts (Err (stops.At n)) = AreRefusedAt ts n
-Reads ts (Err stops.NoMemory) = Unit {0}
+abbrev pub ReadsScript : List Tok → Result Script GrammarStop → Type 0
+ReadsScript ts (Ok script) = SpellsScript ts script.statements
+ReadsScript ts (Err (stops.At n)) = AreRefusedAt ts n
+ReadsScript ts (Err stops.NoMemory) = Unit {0}
 
 -- the answer is this script, unless memory was wanting
 abbrev pub IsScript : List Stmt → Result Script GrammarStop → Type 0

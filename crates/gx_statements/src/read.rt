@@ -2,7 +2,7 @@
 
 ghost use Rattle.gx_grammar.specs.Halts.{toks_of};
 ghost use Rattle.gx_statements.specs.Forms.{SpellsScript};
-ghost use Rattle.gx_statements.specs.Refusals.{IsScript, Reads};
+ghost use Rattle.gx_statements.specs.Refusals.{IsScript, ReadsScript};
 
 use crate::GrammarStop;
 use crate::cursor::Cursor;
@@ -16,7 +16,7 @@ use std::alloc::Global;
 ///
 /// `At` where they spell none, and `NoMemory`.
 pub fn read_script(alloc: Global, tokens: &[Placed<'_>]) -> Result<Script, GrammarStop>
-    ensures read { Reads (toks_of tokens.now) result }
+    ensures read { ReadsScript (toks_of tokens.now) result }
     ensures each { (s : _) → SpellsScript (toks_of tokens.now) s → IsScript s result }
 {
     let mut cursor = Cursor { rest: tokens };

@@ -1,4 +1,9 @@
 //! The script language: texts to scripts, and scripts to their canonical spelling.
+//!
+//! `parse` reads the script that a text spells, or tells the first refused place and why;
+//! `specs/Texts.antt` says what a text is. `show` gives a script's canonical text, which is read as that
+//! script again. The crate stands on the tokens, the grammar and the printer of the crates below, and
+//! names their public types again for those above, which need no other crate of the language.
 #![tactic(auto)]
 
 mod laws;

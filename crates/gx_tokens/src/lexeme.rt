@@ -44,7 +44,9 @@ impl Lexeme<'_> {
 /// A token with its place, in bytes from the start of the text.
 #[derive(Clone, Copy)]
 pub struct Placed<'a> {
+    /// Where the token starts.
     pub start: u32,
+    /// The token.
     pub lexeme: Lexeme<'a>,
 }
 
