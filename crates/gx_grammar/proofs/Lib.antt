@@ -5,5 +5,6 @@ pub mod Levels
 pub mod Local
 pub mod Positions
 pub mod Readers
+pub mod Repetition
 pub mod Sound
 pub mod Turns

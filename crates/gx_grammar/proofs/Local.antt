@@ -1,5 +1,5 @@
 -- The reader of expressions does not look beyond the token where it stops.
-use Rattle.std.proofs.Common.{◌≡◌, ◌<◌, ◌≤◌, Option, Some, None, Result, Ok, Err, List, [], ◌∷◌, ◌++◌, length, refl, sym, ap, subst, arith, length-append}
+use Rattle.std.proofs.Common.{◌≡◌, ◌<◌, ◌≤◌, Option, Some, None, Result, Ok, Err, List, [], ◌∷◌, ◌++◌, length, refl, ap, subst, arith, length-append}
 use Rattle.gx_tokens.specs.Toks.{Tok}
 use Rattle.gx_grammar.specs.Readers.{leaves}
 use Rattle.gx_grammar.specs.Reading.{Answer, goes, ends, refuses, finished, answered, step, reads}
@@ -56,9 +56,6 @@ here : (next next' : Spot → List Frame → Result (Expr × List Tok) (List Tok
 here next next' t r s o (goes s' st') h e = absurd (too_long r (t ∷ r) o (omega arith) (subst (λ q. Within r q) e (h s' st')))
 here next next' t r s o (ends x) h e = ends_local x (t ∷ r) t r s o refl e
 here next next' t r s o refuses h e = refuses_local (t ∷ r) t r s o e
-
-leaves_within : (ts : List Tok) (o : Option Expr) (rest : List Tok) (q : Result (Expr × List Tok) (List Tok)) → q ≡ leaves o rest → Within ts (leaves o rest) → Within ts q
-leaves_within ts o rest q e h = subst (λ a. Within ts a) (sym e) h
 
 ends_early : (x : Expr) (ts rest : List Tok) (o : Option Expr) → length rest < length ts → ◌≡◌ {A = Result (Expr × List Tok) (List Tok)} (Ok (x, ts)) (leaves o rest) → ⊥
 ends_early x ts rest None h e = cc

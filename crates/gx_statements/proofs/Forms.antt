@@ -5,7 +5,8 @@ use Rattle.gx_grammar.specs.Grammar.{Spells}
 use Rattle.gx_grammar.specs.Reading.{goes_on}
 use Rattle.gx_grammar.specs.Readers.{made, one, seq, One, Made, Then, Ends, Faithful}
 use Rattle.gx_grammar.specs.declared.tree.stmt.Stmt.{Stmt}
-use Rattle.gx_grammar.proofs.Readers.{one_faithful, seq_faithful, repeated_faithful, Starts}
+use Rattle.gx_grammar.proofs.Readers.{one_faithful, seq_faithful, Starts}
+use Rattle.gx_grammar.proofs.Repetition.{repeated_faithful}
 use Rattle.gx_grammar.proofs.Expressions.{expression_faithful}
 use Rattle.gx_statements.specs.Marks.{is_sign, is_word, sign, keyword}
 use Rattle.gx_statements.specs.Parts as parts

@@ -13,7 +13,8 @@ use Rattle.gx_grammar.specs.declared.tree.constant.Const.TheVariants as consts
 use Rattle.gx_grammar.specs.declared.tree.expr.Expr.{Expr}
 use Rattle.gx_grammar.specs.declared.tree.parts.Send.{Send}
 use Rattle.gx_grammar.specs.declared.tree.words.ActiveWord.TheVariants as actives
-use Rattle.gx_grammar.proofs.Readers.{made_faithful, one_faithful, seq_faithful, choose_faithful, repeated_faithful, Starts, ends_left, ends_right}
+use Rattle.gx_grammar.proofs.Readers.{made_faithful, one_faithful, seq_faithful, choose_faithful, Starts, ends_left, ends_right}
+use Rattle.gx_grammar.proofs.Repetition.{repeated_faithful}
 use Rattle.gx_grammar.proofs.Levels.{close_is, comma_is}
 use Rattle.gx_grammar.proofs.Complete.{first_of}
 use Rattle.gx_grammar.proofs.Expressions.{expression_faithful}

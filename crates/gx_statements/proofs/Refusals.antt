@@ -4,7 +4,8 @@ use Rattle.std.proofs.lemmas.List.{append-nil}
 use Rattle.gx_tokens.specs.Toks.{Tok}
 use Rattle.gx_grammar.specs.Readers.{Begun, Halted, Read, Tells, repeated}
 use Rattle.gx_grammar.specs.declared.tree.stmt.Stmt.{Stmt}
-use Rattle.gx_grammar.proofs.Readers.{ok_same, many_whole, left_before, left_behind, left_within}
+use Rattle.gx_grammar.proofs.Readers.{ok_same, left_before, left_behind, left_within}
+use Rattle.gx_grammar.proofs.Repetition.{many_whole}
 use Rattle.gx_statements.specs.Forms.{SpellsScript, SpellsSentence, script, sentence}
 use Rattle.gx_statements.specs.Refusals.{NoneGoesOn, AreRefusedAt}
 use Rattle.gx_statements.proofs.Forms.{script_faithful}

@@ -1,7 +1,7 @@
 -- Quoted texts: counting their bytes and those of their values.
 use Rattle.std.specs.Prelude.{◌==◌, ◌||◌, if◌then◌else◌, not, IsCharBoundary}
 use Rattle.std.specs.List.{prefix_len, take_while}
-use Rattle.std.proofs.Common.{◌≡◌, ◌+◌, ◌<◌, ℕ, suc, Bool, true, false, List, [], ◌∷◌, ◌++◌, length, get_or, drop, take, Option, None, Some, refl, sym, ap, cond, ◌∙◌, arith, add-one, drop-cons, length-append, length-drop, append_assoc}
+use Rattle.std.proofs.Common.{◌≡◌, ◌+◌, ◌<◌, ℕ, suc, Bool, true, false, List, [], ◌∷◌, ◌++◌, length, get_or, drop, take, Option, None, Some, refl, sym, ap, cond, ◌∙◌, arith, length-drop, append_assoc}
 use Rattle.std.proofs.lemmas.Bool.{eqb-true}
 use Rattle.std.proofs.lemmas.Bool.Decides.{nat_tests}
 use Rattle.std.proofs.lemmas.List.{append-nil, get_or-drop}
@@ -16,40 +16,6 @@ use Rattle.gx_tokens.specs.declared.quote.Quote.TheVariants.{Closes, Escapes, St
 abbrev pub counted : ℕ → ℕ → Option (ℕ × List ℕ) → Option Extent
 counted n m None = None
 counted n m (Some q) = Some (record { len = n + q.0; value_len = m + length q.1 })
-
-same_extent : (n m k l : ℕ) → n ≡ k → m ≡ l → ◌≡◌ {A = Option Extent} (Some (record { len = n; value_len = m })) (Some (record { len = k; value_len = l }))
-same_extent n m k l a b = cc
-
-pub counted-one_more : (n m : ℕ) (front : List ℕ) (q : Option (ℕ × List ℕ)) → counted n m (one_more front q) ≡ counted (n + 1) (m + length front) q
-counted-one_more n m front None = refl
-counted-one_more n m front (Some q) = same_extent _ _ _ _ (omega arith) (omega (arith, length-append front q.1))
-
-pub counted-all : (q : Option (ℕ × List ℕ)) → counted 0 0 q ≡ extent_of q
-counted-all None = refl
-counted-all (Some q) = same_extent _ _ _ _ (omega arith) (omega arith)
-
-pub quoted_from-at : (escape : Bool) (text : List ℕ) (i : ℕ) → i < length text
-    → quoted_from escape (drop i text) ≡ quoted_on (quote_at escape (get_or text i 0)) (λ e. quoted_from e (drop (i + 1) text))
-quoted_from-at escape text i h = rw (add-one, drop-cons text i 0) refl
-
--- a byte of the loop that counts, as it goes on
-pub counted-escape : (escape : Bool) (text : List ℕ) (i m : ℕ) → i < length text → quote_at escape (get_or text i 0) ≡ Escapes
-    → counted i m (quoted_from escape (drop i text)) ≡ counted (i + 1) m (quoted_from true (drop (i + 1) text))
-counted-escape escape text i m h is =
-    let none : m + 0 ≡ m = omega arith in
-    rw (quoted_from-at escape text i h, is, counted-one_more i m [] (quoted_from true (drop (i + 1) text)), none) refl
-
-pub counted-stands : (escape : Bool) (text : List ℕ) (i m v : ℕ) → i < length text → quote_at escape (get_or text i 0) ≡ Stands v
-    → counted i m (quoted_from escape (drop i text)) ≡ counted (i + 1) (m + 1) (quoted_from false (drop (i + 1) text))
-counted-stands escape text i m v h is = rw (quoted_from-at escape text i h, is, counted-one_more i m (v ∷ []) (quoted_from false (drop (i + 1) text))) refl
-
-pub counted-closes : (escape : Bool) (text : List ℕ) (i m : ℕ) → i < length text → quote_at escape (get_or text i 0) ≡ Closes
-    → counted i m (quoted_from escape (drop i text)) ≡ Some (record { len = i; value_len = m })
-counted-closes escape text i m h is = rw (quoted_from-at escape text i h, is) (same_extent _ _ _ _ (omega arith) (omega arith))
-
-pub counted-refused : (escape : Bool) (text : List ℕ) (i m : ℕ) → i < length text → quote_at escape (get_or text i 0) ≡ Refused
-    → counted i m (quoted_from escape (drop i text)) ≡ None
-counted-refused escape text i m h is = rw (quoted_from-at escape text i h, is) refl
 
 -- the byte that closes a text is a quotation mark
 no_escape : (c : ℕ) (a b d e : Bool) → (if a then Stands c else if b then Stands 10 else if d then Stands 9 else if e then Stands 13 else Refused) ≡ Closes → c ≡ 34

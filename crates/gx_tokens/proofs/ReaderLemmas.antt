@@ -10,7 +10,7 @@ use Rattle.std.proofs.lemmas.Bool.Decides.{nat_tests}
 use Rattle.std.proofs.lemmas.List.{get_or-take, get_or-drop, get_or_append_left, take-take, take-append-le, drop-take, drop-drop}
 use Rattle.std.proofs.Math.Seq.{take-length}
 use Rattle.std.proofs.lemmas.List.Sums.{prefix_len-drop_yes, prefix_len-le-length, prefix_len_passes, take_while-cons}
-use Rattle.std.proofs.lemmas.Str.{IsCharBoundary-before_ascii, IsCharBoundary-after_ascii}
+use Rattle.std.proofs.lemmas.Str.{IsCharBoundary-after_ascii}
 use Rattle.std.proofs.lemmas.Str.Parse.{IsNumeralModel, numerals_by_value, parse_digits, tells_all_ascii_digits}
 use Rattle.gx_tokens.specs.Limits.{most_word_bytes, most_text_bytes, most_number}
 use Rattle.gx_tokens.specs.Toks.{Tok, number}
@@ -28,10 +28,6 @@ use Rattle.gx_tokens.specs.declared.syntax_kind.SyntaxKind.TheVariants.{TextOpen
 use Rattle.gx_tokens.proofs.LexingLemmas.{left_at-token}
 use Rattle.gx_tokens.proofs.QuoteLemmas.{extent_is, no_extent, quoted_from-closed}
 use Rattle.gx_tokens.proofs.SymbolLemmas.{spelling-plain, symbol_at-spelled}
-
--- the ends of a slice that begins and ends with ASCII characters are boundaries
-pub start-boundary : (text : List ℕ) (at len : ℕ) → IsEdged text at len → IsCharBoundary text at
-start-boundary text at len e = IsCharBoundary-before_ascii text at (omega (arith, e.some, e.within)) e.first
 
 pub end-boundary : (text : List ℕ) (at len : ℕ) → IsUtf8 text → IsEdged text at len → IsCharBoundary text (at + len)
 end-boundary text at len u e =

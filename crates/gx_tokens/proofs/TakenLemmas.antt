@@ -1,7 +1,7 @@
 -- Tokens that are taken one by one.
-use Rattle.std.proofs.Common.{◌≡◌, ◌+◌, ◌++◌, ◌∷◌, [], ℕ, List, length, map, Bor, refl, sym, ap, ◌∙◌, append_assoc}
-use Rattle.std.proofs.lemmas.List.{append-nil, map-append}
-use Rattle.gx_tokens.specs.Lexing.{before, left_at, no_more}
+use Rattle.std.proofs.Common.{◌≡◌, ◌+◌, ◌++◌, ℕ, List, length, map, Bor, refl, sym, ap, ◌∙◌}
+use Rattle.std.proofs.lemmas.List.{append-nil}
+use Rattle.gx_tokens.specs.Lexing.{left_at, no_more}
 use Rattle.gx_tokens.specs.Taking.{IsTaken}
 use Rattle.gx_tokens.specs.Toks.{Lexed, Tok, word, number}
 use Rattle.gx_tokens.specs.TokenTexts.{IsFirst, IsWritten, Means, ending_of, kind_of, lexed_of, placed_of, tok_of}
@@ -36,14 +36,6 @@ taken script at p w k kind is = record {
 -- tokens that were taken, and then those that are left
 abbrev pub with_front : List (ℕ × Tok) → Lexed → Lexed
 with_front front rest = record { tokens = front ++ rest.tokens; ending = rest.ending }
-
--- one token more is taken
-pub with_front-more : (tokens : List Placed) (p : Placed) (now rest whole : Lexed) → now ≡ before (placed_of p) rest → with_front (map placed_of tokens) now ≡ whole
-    → with_front (map placed_of (tokens ++ p ∷ [])) rest ≡ whole
-with_front-more tokens p now rest whole is so_far =
-    ap (λ front. with_front front rest) (map-append placed_of tokens (p ∷ []))
-    ∙ (λ k. record { tokens = append_assoc (map placed_of tokens) (placed_of p ∷ []) rest.tokens k; ending = rest.ending })
-    ∙ ap (with_front (map placed_of tokens)) (sym is) ∙ so_far
 
 -- none is left
 pub with_front-done : (tokens : List Placed) (end : End) (now whole : Lexed) → now ≡ no_more (ending_of end) → with_front (map placed_of tokens) now ≡ whole → lexed_of tokens end ≡ whole
