@@ -16,7 +16,14 @@ fn spaces(rt: HostRuntime) -> Result<(), Fail> {
         ("", ""),
         (" # print table people;\n", ""),
         ("\u{feff}", ""),
-        // White space around each token.
+    ];
+    assert_shown(&rt, rt.alloc(), &cases)
+}
+
+// White space around each token of a statement, or none.
+#[test]
+fn spaces_in_statements(rt: HostRuntime) -> Result<(), Fail> {
+    let cases = [
         (
             "vertices a from\"f\"(b:int,c:text);",
             "vertices a from \"f\" (b: int, c: text);\n",
