@@ -6,8 +6,8 @@ use Rattle.csv.proofs.ReadFacts.{rows-end, rows-more}
 use Rattle.csv.specs.Machine.{Read, ends_at_end, next_record}
 use Rattle.csv.specs.Reading.{Ready, Reached, ReadRecord, default_config, records_from}
 use Rattle.csv.specs.declared.parser.State.{State}
-use Rattle.csv.specs.declared.reader.Reader.{Reader}
-use Rattle.csv.specs.declared.reader.Trim.TheVariants as trim
+use Rattle.csv.specs.declared.lexer.Reader.{Reader}
+use Rattle.csv.specs.declared.lexer.Trim.TheVariants as trim
 use Rattle.gx_load.specs.Left.{IsPlain, records_after, records_left}
 use Rattle.gx_load.proofs.Machine.{next_record-lands, next_record-shorter, records_from-enough}
 

@@ -4,8 +4,8 @@ use denote.Ref.{Bor}
 use Rattle.csv.specs.Machine.{ends_at_end}
 use Rattle.csv.specs.Reading.{Ready, default_config, records_from, source_of}
 use Rattle.csv.specs.declared.parser.State.{State}
-use Rattle.csv.specs.declared.reader.Reader.{Reader}
-use Rattle.csv.specs.declared.reader.Trim.TheVariants as trim
+use Rattle.csv.specs.declared.lexer.Reader.{Reader}
+use Rattle.csv.specs.declared.lexer.Trim.TheVariants as trim
 
 -- the bytes that a reader of a lent text has left
 abbrev pub bytes_left : Reader (Bor (List ℕ)) → Option (List ℕ)

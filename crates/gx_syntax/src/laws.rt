@@ -2,11 +2,11 @@
 
 ghost use Rattle.gx_syntax.specs.Texts.{HasOneMeaning};
 
-use gx_statements::scripts_are_told;
+use gx_syntax_stmts::scripts_are_unique;
 
 /// A text spells one script alone, or is refused at one place for one reason.
 pub fn texts_have_one_meaning()
     ensures { HasOneMeaning }
 {
-    scripts_are_told();
+    scripts_are_unique();
 }

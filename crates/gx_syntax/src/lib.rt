@@ -13,13 +13,10 @@ mod syntax_stop;
 #[cfg(test)]
 mod tests;
 
-pub use gx_grammar::{
-    ActiveWord, Binary, Column, Const, CutWord, Expr, Merge, MergeWord, NamedConst, NeighbourWord,
-    Script, Send, Set, SideWord, Stmt, Unary,
-};
-pub use gx_show::show;
-pub use gx_tokens::{SyntaxKind, Token, TokenKind, Tokens};
+pub use gx_syntax_tree::{ActiveWord, BinaryOp, ColumnConst, ColumnDecl, ColumnExpr, ColumnMerge, Const, CutWord, Expr, MergeWord, NeighbourWord, Script, SendClause, SideWord, Stmt, UnaryOp};
+pub use gx_syntax_show::show;
+pub use gx_syntax_tokens::{SyntaxKind, Token, TokenKind, Tokens};
 pub use laws::texts_have_one_meaning;
 pub use parser::parse;
-pub use shown_back::shown_scripts_are_read_back;
+pub use shown_back::show_round_trips;
 pub use syntax_stop::SyntaxStop;

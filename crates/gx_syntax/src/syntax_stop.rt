@@ -4,7 +4,7 @@ ghost use Rattle.std.specs.Prelude.{◌≡◌};
 ghost use Rattle.gx_syntax.specs.declared.syntax_stop.SyntaxStop.TheVariants as stops;
 
 use gx_rows::NoMemory;
-use gx_tokens::SyntaxKind;
+use gx_syntax_tokens::SyntaxKind;
 use std::alloc::{AllocError, AllocFailed};
 
 /// Why a text is no script.

@@ -2,4 +2,4 @@ use Rattle.gx_syntax.proofs.MeaningLemmas.{one_meaning}
 use Rattle.gx_syntax.proofs.laws.texts_have_one_meaning.Goals as goal
 
 pub returns : goal.returns
-returns c = one_meaning c.scripts_are_told.ensures
+returns c = one_meaning c.scripts_are_unique.ensures

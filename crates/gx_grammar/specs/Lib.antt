@@ -1,6 +1,0 @@
-pub mod Answers
-pub mod Grammar
-pub mod Halts
-pub mod Operators
-pub mod Readers
-pub mod Reading

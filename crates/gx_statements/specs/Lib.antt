@@ -1,5 +1,0 @@
-pub mod Forms
-pub mod Limits
-pub mod Marks
-pub mod Parts
-pub mod Refusals

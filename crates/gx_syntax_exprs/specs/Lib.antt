@@ -1,0 +1,6 @@
+pub mod StepOutcomes
+pub mod Grammar
+pub mod Parses
+pub mod Operators
+pub mod Combinators
+pub mod PrecedenceParser

@@ -1,0 +1,20 @@
+//! The trees of scripts, and the grammar of expressions: which tokens spell which tree, and the
+//! reader of expressions.
+//!
+//! A script is a list of statements, each a variant of `Stmt` with the parts that its spelling has.
+//! `specs/Grammar.antt` has the expressions by the levels of their operators. `specs/Readers.antt`
+//! says what it means that a reader reads just the words of a language, over any tokens. The crate
+//! stands on the tokens of `gx_tokens` and on the kit's `sqlite_items`, by which a tree may hold
+//! trees; the reader of statements, the printer and the checks of types stand on it.
+#![tactic(auto)]
+
+mod expression;
+mod parse_stop;
+mod marks;
+mod operators;
+mod stack;
+mod steps;
+
+pub use expression::parse_expression;
+pub use parse_stop::ParseStop;
+pub use marks::{is_close, is_comma, is_dot, is_minus, is_open};

@@ -1,0 +1,40 @@
+//! Where a reader stops.
+
+ghost use Rattle.std.specs.Prelude.{◌≡◌};
+ghost use Rattle.gx_syntax_exprs.specs.declared.parse_stop.ParseStop.TheVariants as stops;
+
+use gx_rows::NoMemory;
+use std::alloc::{AllocError, AllocFailed};
+
+/// Why a reader stopped.
+#[derive(Clone, Copy, Debug, PartialEq, Eq)]
+pub enum ParseStop {
+    /// The next token, or the end, is refused.
+    Refused,
+    /// Want of memory.
+    NoMemory,
+}
+
+impl From<NoMemory> for ParseStop {
+    ghost from_gives = { λ _ halt. halt ≡ stops.NoMemory };
+
+    fn from(_error: NoMemory) -> ParseStop {
+        ParseStop::NoMemory
+    }
+}
+
+impl From<AllocError> for ParseStop {
+    ghost from_gives = { λ _ halt. halt ≡ stops.NoMemory };
+
+    fn from(_error: AllocError) -> ParseStop {
+        ParseStop::NoMemory
+    }
+}
+
+impl<T: Drop> From<AllocFailed<T>> for ParseStop {
+    ghost from_gives = { λ _ halt. halt ≡ stops.NoMemory };
+
+    fn from(_error: AllocFailed<T>) -> ParseStop {
+        ParseStop::NoMemory
+    }
+}

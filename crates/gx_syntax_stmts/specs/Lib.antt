@@ -1,0 +1,5 @@
+pub mod Forms
+pub mod Limits
+pub mod TokenTests
+pub mod Parts
+pub mod Refusals

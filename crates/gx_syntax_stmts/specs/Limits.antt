@@ -1,0 +1,38 @@
+-- How many tokens a statement may have, its `;` left aside.
+use Rattle.std.specs.Prelude.{◌≡◌, ℕ, suc, ◌≤◌, Bool, true, false, List, [], ◌∷◌, ◌++◌, length, take, drop}
+use Rattle.gx_syntax_tokens.specs.Terminals.{Terminal}
+use Rattle.gx_syntax_stmts.specs.TokenTests.{is_semicolon}
+
+-- the most tokens of a statement
+abbrev pub most_tokens : ℕ
+most_tokens = 2048
+
+-- the tokens of a statement, of which there are n, and one more: a `;` begins the next statement
+abbrev pub counted : Bool → ℕ → ℕ
+counted true n = 0
+counted false n = suc n
+
+-- the tokens of the last statement, of which n stand before these
+abbrev pub open_len : ℕ → List Terminal → ℕ
+open_len n [] = n
+open_len n (t ∷ ts) = open_len (counted (is_semicolon t) n) ts
+
+-- behind these tokens, this one is one too many for its statement
+pub record IsOneTooMany (front : List Terminal) (t : Terminal) : Type 0 where
+  pub counts : is_semicolon t ≡ false
+  pub many : most_tokens ≤ open_len 0 front
+
+-- no token is one too many
+abbrev pub IsShort : List Terminal → Type 0
+IsShort ts = (front : List Terminal) (t : Terminal) (rest : List Terminal) → ts ≡ front ++ t ∷ rest → ¬ IsOneTooMany front t
+
+-- the first token of the rest is one too many, if there is a rest
+abbrev pub Overflows : List Terminal → List Terminal → Type 0
+Overflows front [] = Unit {0}
+Overflows front (t ∷ rest) = IsOneTooMany front t
+
+-- the first n tokens are those before the first that is one too many
+pub record IsWithinLimit (ts : List Terminal) (n : ℕ) : Type 0 where
+  pub within : n ≤ length ts
+  pub short : IsShort (take n ts)
+  pub overflows : Overflows (take n ts) (drop n ts)

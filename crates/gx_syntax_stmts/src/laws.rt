@@ -1,0 +1,8 @@
+//! What holds of the tokens of scripts.
+
+ghost use Rattle.gx_syntax_stmts.specs.Refusals.{ScriptsAreUnique};
+
+/// Tokens spell no more than one script.
+pub fn scripts_are_unique()
+    ensures { ScriptsAreUnique }
+{}

@@ -1,0 +1,10 @@
+pub mod EscapeLemmas
+pub mod LexingLemmas
+pub mod ValidityLemmas
+pub mod QuoteLemmas
+pub mod ReaderLemmas
+pub mod SpacingLemmas
+pub mod SymbolLemmas
+pub mod TakenLemmas
+pub mod TokenLemmas
+pub mod WritingLemmas

@@ -1,0 +1,11 @@
+use Rattle.std.specs.Prelude.{IsCharBoundary}
+use Rattle.std.specs.List.{prefix_len}
+use Rattle.std.proofs.Common.{◌≡◌, subst}
+use Rattle.gx_syntax_tokens.specs.Quotes.{is_plain}
+use Rattle.gx_syntax_tokens.proofs.QuoteLemmas.{plain-boundary}
+use Rattle.gx_syntax_tokens.proofs.unescaping.split_plain.Goals as goal
+
+pub split_at-requires : goal.split_at-requires
+split_at-requires c =
+    let len : prefix_len is_plain c.args.text.now ≡ c.plain_len.result = cc in
+    subst (IsCharBoundary c.args.text.now) len (plain-boundary c.args.text.now)

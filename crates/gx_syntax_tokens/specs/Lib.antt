@@ -1,0 +1,11 @@
+pub mod LexerState
+pub mod Lexing
+pub mod Limits
+pub mod Validity
+pub mod Quotes
+pub mod SpacedText
+pub mod Symbols
+pub mod Taking
+pub mod TokenTexts
+pub mod Terminals
+pub mod Writing

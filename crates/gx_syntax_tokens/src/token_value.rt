@@ -1,0 +1,128 @@
+//! Tokens as the parser takes them.
+
+ghost use Rattle.std.specs.Prelude.{◌≡◌, ◌<◌, ◌^◌, All, IfOk, length};
+ghost use Rattle.gx_syntax_tokens.specs.Lexing.{tokens_of};
+ghost use Rattle.gx_syntax_tokens.specs.Validity.{IsValid};
+ghost use Rattle.gx_syntax_tokens.specs.Quotes.{unescaped};
+ghost use Rattle.gx_syntax_tokens.specs.TokenTexts.{kind_of, token_stream_of, terminal_of};
+
+use crate::unescaping::{plain_len, value_of};
+use crate::lexer::{NextToken, next_at};
+use crate::scan::bom_len;
+use crate::symbol::Symbol;
+use crate::{SyntaxKind, TokenKind};
+use gx_rows::{NoMemory, Text};
+use std::alloc::Global;
+
+/// A token without its place. A number is at most 9223372036854775807.
+#[derive(Clone, Copy)]
+pub enum TokenValue<'a> {
+    /// A word.
+    Word(&'a str),
+    /// A number.
+    Number(u64),
+    /// A quoted text, between its quotes and with its escapes.
+    Quoted(&'a str),
+    /// A symbol.
+    Symbol(Symbol),
+}
+
+impl TokenValue<'_> {
+    /// What the token is.
+    pub(crate) fn kind(self) -> TokenKind
+        ensures { result ≡ kind_of self.entry }
+    {
+        match self {
+            TokenValue::Word(_) => TokenKind::Word,
+            TokenValue::Number(_) => TokenKind::Number,
+            TokenValue::Quoted(_) => TokenKind::Quoted,
+            TokenValue::Symbol(_) => TokenKind::Symbol,
+        }
+    }
+}
+
+/// A token with its place, in bytes from the start of the text.
+#[derive(Clone, Copy)]
+pub struct PlacedToken<'a> {
+    /// Where the token starts.
+    pub start: u32,
+    /// The token.
+    pub value: TokenValue<'a>,
+}
+
+/// How the tokens of a text end.
+#[derive(Clone, Copy)]
+pub enum LexEnd {
+    /// The text ends here, in bytes from its start.
+    Eof(u32),
+    /// No token stands at this place, for this reason.
+    Error(u32, SyntaxKind),
+}
+
+/// The tokens of a text, each with its place, and how they end.
+///
+/// # Errors
+///
+/// `NoMemory` where there is no room for the list.
+pub fn lex<'a>(alloc: Global, text: &'a str) -> Result<(Vec<PlacedToken<'a>>, LexEnd), NoMemory>
+    requires { length text.now < 2 ^ 32 }
+    ensures whole { IfOk result (λ r. token_stream_of r.0.items r.1 ≡ tokens_of text.now) }
+    ensures proper { IfOk result (λ r. All (λ p. IsValid (terminal_of p.value)) r.0.items) }
+{
+    let mut tokens = Vec::new(alloc);
+    let mut at = bom_len(text.as_bytes());
+    loop {
+        match next_at(text, at) {
+            NextToken::Token(placed, slice) => {
+                at = placed.start as usize + slice.len();
+                tokens.push(placed)?;
+            }
+            NextToken::Ends(end) => return Ok((tokens, end)),
+        }
+    }
+}
+
+/// The value of what stands between the quotation marks of a text, as `Lexeme::Quoted` has it.
+///
+/// # Errors
+///
+/// `NoMemory` where there is no room for the value.
+#[tactic(auto, unfolding(crate::specs::Quotes::unescaped))]
+pub fn unescape(alloc: Global, raw: &str) -> Result<Text, NoMemory>
+    ensures { IfOk result (λ value. value ≡ unescaped raw.now) }
+{
+    if plain_len(raw.as_bytes()) == raw.len() {
+        return Text::of(alloc, raw);
+    }
+    let value = value_of(alloc, raw)?;
+    Text::of(alloc, value.as_str())
+}
+
+#[cfg(test)]
+mod tests {
+    use super::*;
+    use std::test::Fail;
+
+    #[test]
+    fn lists_the_tokens(rt: HostRuntime) -> Result<(), Fail> {
+        let (tokens, end) = lex(rt.alloc(), "f = g ;")?;
+        assert_eq!(rt; tokens.len(), 4);
+        assert!(rt; matches!(end, LexEnd::Eof(7)));
+        Ok(())
+    }
+
+    #[test]
+    fn takes_escapes(rt: HostRuntime) -> Result<(), Fail> {
+        let cases = [
+            ("", ""),
+            ("é b", "é b"),
+            ("a\\\"b\\\\\\n", "a\"b\\\n"),
+            ("\\té\\r", "\té\r"),
+        ];
+        for (raw, expected) in cases {
+            let value = unescape(rt.alloc(), raw)?;
+            assert_eq!(rt; value.as_str(), expected, "at {raw:?}");
+        }
+        Ok(())
+    }
+}

@@ -1,0 +1,65 @@
+-- How tightly operators bind: `or`, `and`, `not`, comparisons, sums, products, the sign, from 1 to 7.
+use Rattle.std.specs.Prelude.{ℕ}
+use Rattle.gx_syntax_tree.specs.declared.expr.BinaryOp.{BinaryOp}
+use Rattle.gx_syntax_tree.specs.declared.expr.BinaryOp.TheVariants as binary
+use Rattle.gx_syntax_tree.specs.declared.expr.UnaryOp.{UnaryOp}
+use Rattle.gx_syntax_tree.specs.declared.expr.UnaryOp.TheVariants as unary
+
+-- the level of an operation
+abbrev pub binary_precedence : BinaryOp → ℕ
+binary_precedence binary.Or = 1
+binary_precedence binary.And = 2
+binary_precedence binary.Eq = 4
+binary_precedence binary.Ne = 4
+binary_precedence binary.Lt = 4
+binary_precedence binary.Le = 4
+binary_precedence binary.Gt = 4
+binary_precedence binary.Ge = 4
+binary_precedence binary.Add = 5
+binary_precedence binary.Sub = 5
+binary_precedence binary.Mul = 6
+binary_precedence binary.Div = 6
+binary_precedence binary.Rem = 6
+
+-- the least level of the operand before an operator: its own, so that chains group to the left, and
+-- more for comparisons, which do not chain
+abbrev pub left_precedence : BinaryOp → ℕ
+left_precedence binary.Or = 1
+left_precedence binary.And = 2
+left_precedence binary.Eq = 5
+left_precedence binary.Ne = 5
+left_precedence binary.Lt = 5
+left_precedence binary.Le = 5
+left_precedence binary.Gt = 5
+left_precedence binary.Ge = 5
+left_precedence binary.Add = 5
+left_precedence binary.Sub = 5
+left_precedence binary.Mul = 6
+left_precedence binary.Div = 6
+left_precedence binary.Rem = 6
+
+-- the least level of the operand behind an operator
+abbrev pub right_precedence : BinaryOp → ℕ
+right_precedence binary.Or = 2
+right_precedence binary.And = 3
+right_precedence binary.Eq = 5
+right_precedence binary.Ne = 5
+right_precedence binary.Lt = 5
+right_precedence binary.Le = 5
+right_precedence binary.Gt = 5
+right_precedence binary.Ge = 5
+right_precedence binary.Add = 6
+right_precedence binary.Sub = 6
+right_precedence binary.Mul = 7
+right_precedence binary.Div = 7
+right_precedence binary.Rem = 7
+
+-- the level of an operation with its operator in front
+abbrev pub unary_precedence : UnaryOp → ℕ
+unary_precedence unary.Not = 3
+unary_precedence unary.Neg = 7
+
+-- the least level of its operand
+abbrev pub operand_precedence : UnaryOp → ℕ
+operand_precedence unary.Not = 4
+operand_precedence unary.Neg = 8

@@ -1,0 +1,11 @@
+//! Scripts.
+
+use crate::stmt::Stmt;
+use sqlite_items::Items;
+
+/// A script: its statements in order, which are numbered from 1.
+#[derive(Drop)]
+pub struct Script {
+    /// The statements.
+    pub statements: Items<Stmt>,
+}

@@ -1,5 +1,0 @@
-use Rattle.gx_tokens.proofs.ReaderLemmas.{end-boundary}
-use Rattle.gx_tokens.proofs.reader.cut.Goals as goal
-
-pub range-requires-clause-end_boundary : goal.range-requires-clause-end_boundary
-range-requires-clause-end_boundary c = end-boundary c.args.text.now c.args.at c.args.len c.utf8.text c.requires

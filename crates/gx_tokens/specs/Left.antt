@@ -1,9 +1,0 @@
--- What is left of a script that is read token by token.
-use Rattle.std.specs.Prelude.{ℕ, List}
-use Rattle.gx_tokens.specs.Toks.{Lexed}
-
--- the script, where what was read of it ends, and the tokens from there on
-pub record Left : Type 0 where
-  pub script : List ℕ
-  pub behind : ℕ
-  pub left : Lexed
