@@ -4,7 +4,6 @@ ghost use Rattle.std.specs.Prelude.{◌≡◌};
 ghost use Rattle.gx_rows.specs.declared.eval_stop.EvalStop.TheVariants as eval_stop;
 
 use crate::{Cause, NoMemory};
-use std::alloc::{AllocError, AllocFailed};
 
 /// Why an expression gave no value on one row.
 #[derive(Clone, Copy, Debug, PartialEq, Eq)]
@@ -24,22 +23,6 @@ impl From<NoMemory> for EvalStop {
     ghost from_gives = { λ _ stop. stop ≡ eval_stop.NoMemory };
 
     fn from(_error: NoMemory) -> EvalStop {
-        EvalStop::NoMemory
-    }
-}
-
-impl From<AllocError> for EvalStop {
-    ghost from_gives = { λ _ stop. stop ≡ eval_stop.NoMemory };
-
-    fn from(_error: AllocError) -> EvalStop {
-        EvalStop::NoMemory
-    }
-}
-
-impl<T: Drop> From<AllocFailed<T>> for EvalStop {
-    ghost from_gives = { λ _ stop. stop ≡ eval_stop.NoMemory };
-
-    fn from(_error: AllocFailed<T>) -> EvalStop {
         EvalStop::NoMemory
     }
 }

@@ -4,7 +4,6 @@ ghost use Rattle.std.specs.Prelude.{◌≡◌};
 ghost use Rattle.gx_rows.specs.declared.part_stop.PartStop.TheVariants as part_stop;
 
 use crate::{Cause, NoMemory, RowKey};
-use std::alloc::{AllocError, AllocFailed};
 
 /// Why a kernel gave no result on a partition.
 #[derive(Debug, Drop, PartialEq, Eq)]
@@ -26,22 +25,6 @@ impl From<NoMemory> for PartStop {
     ghost from_gives = { λ _ stop. stop ≡ part_stop.NoMemory };
 
     fn from(_error: NoMemory) -> PartStop {
-        PartStop::NoMemory
-    }
-}
-
-impl From<AllocError> for PartStop {
-    ghost from_gives = { λ _ stop. stop ≡ part_stop.NoMemory };
-
-    fn from(_error: AllocError) -> PartStop {
-        PartStop::NoMemory
-    }
-}
-
-impl<T: Drop> From<AllocFailed<T>> for PartStop {
-    ghost from_gives = { λ _ stop. stop ≡ part_stop.NoMemory };
-
-    fn from(_error: AllocFailed<T>) -> PartStop {
         PartStop::NoMemory
     }
 }

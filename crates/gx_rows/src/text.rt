@@ -1,6 +1,6 @@
 //! Texts: bytes of UTF-8 that are shared and never change.
 
-ghost use Rattle.std.specs.Prelude.{◌≡◌, IfOk, IsUtf8, nat_eq, refl};
+ghost use Rattle.std.specs.Prelude.{◌≡◌, IfOk, IsUtf8, nat_eq, refl, string_bytes};
 ghost use Rattle.std.specs.Cmp.{partial_equiv_from_equiv};
 ghost use Rattle.std.specs.Cmp.Lexicographic.{
   pointwise,
@@ -43,7 +43,18 @@ impl Text {
     pub fn of(alloc: Global, s: &str) -> Result<Text, NoMemory>
         ensures { IfOk result (λ t. t ≡ s.now) }
     {
-        let chars = Rc::new(alloc, String::from_str(alloc, s)?)?;
+        Text::from_string(alloc, String::from_str(alloc, s)?)
+    }
+
+    /// The text of `chars`, which it takes over without a copy.
+    ///
+    /// # Errors
+    ///
+    /// `NoMemory` if there is no room for the count of copies.
+    pub fn from_string(alloc: Global, chars: String) -> Result<Text, NoMemory>
+        ensures { IfOk result (λ t. t ≡ string_bytes chars) }
+    {
+        let chars = Rc::new(alloc, chars)?;
         Ok(Text { chars })
     }
 
