@@ -6,7 +6,13 @@ use gx_rows::NoMemory;
 #[test]
 fn masks_by_length(rt: HostRuntime) -> Result<(), NoMemory> {
     // A length, and the first even index from 63 on.
-    for (len, next) in [(0, None), (63, None), (64, None), (65, Some(64)), (1000, Some(64))] {
+    for (len, next) in [
+        (0, None),
+        (63, None),
+        (64, None),
+        (65, Some(64)),
+        (1000, Some(64)),
+    ] {
         let full = Mask::full(rt.alloc(), len)?;
         let mut odd = Mask::new(rt.alloc(), len)?;
         for i in 0..len {
