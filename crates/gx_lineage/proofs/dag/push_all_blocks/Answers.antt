@@ -1,6 +1,6 @@
 use Rattle.std.proofs.Common.{append_assoc}
 use Rattle.gx_lineage.proofs.Blocks.{blocks_at_more}
-use Rattle.gx_lineage.proofs.dag.read_all.Goals as goal
+use Rattle.gx_lineage.proofs.dag.push_all_blocks.Goals as goal
 
 pub loop-part-preserved : goal.loop-part-preserved
 loop-part-preserved c =
