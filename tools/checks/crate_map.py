@@ -3,10 +3,11 @@
 Each gives the groups in the same order, and the crates of each group in the same order:
 
 - in crates.txt a line `# NAME: SENTENCE` begins a group, and its crates follow;
-- in README.md, between the lines `<!-- map -->` and `<!-- end of map -->`, a row `| **NAME** | SENTENCE | |` begins a
-  group, and a row for each crate follows, whose last cell names the crates that it depends on, as crates.txt does;
-- in docs/architecture.md, between the same two lines, a line that starts with `**NAME**` begins a group, and
-  the names of crates in backticks, in it and in the lines up to the next group, are its crates.
+- in README.md, between the lines `<!-- map -->` and `<!-- end of map -->`, a row
+  `| **NAME** | SENTENCE | |` begins a group, and a row for each of its crates follows, whose last
+  cell names what it depends on, as crates.txt does;
+- in docs/architecture.md, between the same two lines, a line that starts with `**NAME**` begins a
+  group, and its crates are those named in backticks in it and in the lines up to the next group.
 """
 
 import re
@@ -19,7 +20,7 @@ CRATE_ROW = re.compile(r"\| (?:`(\w+)`|\[`(\w+)`\]\(crates/(\w+)/README\.md\)) \
 
 
 class Map:
-    """Groups of crates in the order of a document, and the crates that each depends on, if it says so."""
+    """Groups of crates in the order of a document, and what each crate depends on, if given."""
 
     def __init__(self):
         self.groups = []
@@ -38,7 +39,7 @@ class Map:
 
 
 def map_of_list(text):
-    """The map of crates.txt. A crate's line may have words before its colon, as `NAME staticlib: DEP`."""
+    """The map of crates.txt. Words may follow a crate's name, as in `NAME staticlib: DEP`."""
     found = Map()
     for line in text.splitlines():
         group = re.match(r"# ([a-z]+): \S", line)
@@ -55,7 +56,7 @@ def marked_lines(text):
     """The lines between the marks."""
     parts = re.split(r"^<!-- (?:end of )?map -->$", text, flags=re.M)
     if len(parts) != 3:
-        raise ValueError("there is no part between one line <!-- map --> and one line <!-- end of map -->")
+        raise ValueError("no part between one line <!-- map --> and one line <!-- end of map -->")
     return [line.rstrip() for line in parts[1].splitlines() if line.strip()]
 
 
@@ -74,7 +75,7 @@ def map_of_table(text):
 
 
 def map_of_layers(text, crates):
-    """The map of docs/architecture.md. A name in backticks counts if it is a crate's, or looks like one."""
+    """The map of docs/architecture.md. A name in backticks counts if it is, or seems, a crate's."""
     found = Map()
     for line in marked_lines(text):
         group = re.match(r"\*\*(\w+)\*\*", line)
@@ -88,17 +89,18 @@ def map_of_layers(text, crates):
 
 def difference(found, wanted):
     """The first group at which two maps differ, if any."""
-    pairs = zip([*found.groups, ("no group", [])], [*wanted.groups, ("no group", [])])
-    for here, there in pairs:
+    for here, there in zip([*found.groups, ("no group", [])], [*wanted.groups, ("no group", [])]):
         if here != there:
-            names = [f"{group} with {', '.join(crates) or 'no crates'}" for group, crates in (here, there)]
+            names = [f"{group} ({', '.join(crates)})" for group, crates in (here, there)]
             return f"has {names[0]}, and crates.txt has {names[1]}"
     return None
 
 
 def other_depends(found, wanted):
     """How two lists of what a crate depends on differ, if they do."""
-    return None if found == wanted else f"it has {' '.join(found)}, and crates.txt has {' '.join(wanted)}"
+    if found == wanted:
+        return None
+    return f"has '{' '.join(found)}', and crates.txt has '{' '.join(wanted)}'"
 
 
 def check_map():
@@ -119,4 +121,5 @@ def check_map():
         judge(f"{name}, map of the crates", difference(found, wanted))
         for crate, depends in found.depends.items():
             if depends is not None:
-                judge(f"{name}, what {crate} depends on", other_depends(depends, wanted.depends.get(crate, [])))
+                problem = other_depends(depends, wanted.depends.get(crate, []))
+                judge(f"{name}, what {crate} depends on", problem)

@@ -1,7 +1,7 @@
 """Checks that the documents are whole, and that sources are documented.
 
-Each crate has a README.md, each link of a document leads somewhere, and each module and public item of the
-sources has a comment that says what it is.
+Each crate has a README.md, each link of a document leads somewhere, and each module and public item
+of the sources has a comment that says what it is.
 """
 
 import re
@@ -47,6 +47,7 @@ def check_sources():
     for source in sorted(TOP.glob("crates/*/src/**/*.rt")):
         lines = source.read_text().splitlines()
         name = source.relative_to(TOP)
-        judge(f"{name}, module documentation", None if lines[0].startswith("//! ") else "no `//!` at its head")
+        has_head = lines[0].startswith("//! ")
+        judge(f"{name}, module documentation", None if has_head else "no `//!` at its head")
         missing = undocumented(lines)
         judge(f"{name}, public items", f"no `///` at lines {missing}" if missing else None)

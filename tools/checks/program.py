@@ -1,7 +1,7 @@
 """Tries the program that `./gx` runs.
 
-Every example prints what its `.out` file says, every console block of README.md and docs/ prints what it shows,
-and bad input ends with its status and prints nothing.
+Every example prints what its `.out` file says, every console block of README.md and docs/ prints
+what it shows, and bad input ends with its status and prints nothing.
 """
 
 import re
@@ -14,9 +14,10 @@ from checks.report import GX, TOP, as_nobody, judge, output_of, run
 
 
 def check_start():
-    """Returns whether there is a program to try. It is proved and built first if dist/ does not have it."""
+    """Returns whether there is a program to try. It is built first if dist/ does not have it."""
     ended = run([GX, "run", "none.gx"])
-    judge("the program", None if ended.returncode == 4 else f"`./gx run none.gx`: {ended.returncode}, {ended.stderr!r}")
+    problem = f"`./gx run none.gx` ended with status {ended.returncode} for 4, {ended.stderr!r}"
+    judge("the program", None if ended.returncode == 4 else problem)
     return ended.returncode == 4
 
 
@@ -46,7 +47,7 @@ def check_console_blocks():
 
 
 def check_bad_input():
-    """Each case: the arguments, and the status that the run must end with. Nothing may be printed."""
+    """Each case has the arguments and the status of the run. Nothing may be printed."""
     with tempfile.TemporaryDirectory() as folder:
         here = Path(folder)
         here.chmod(0o755)
@@ -55,7 +56,8 @@ def check_bad_input():
         (here / "absent.gx").write_text('vertices a from "none.csv" (age: int); print table a;')
         (here / "folder.gx").write_text('vertices a from "." (age: int); print table a;')
         (here / "nameless.gx").write_text('vertices a from "" (age: int); print table a;')
-        (here / "random.gx").write_bytes(bytes((i * 167 + i // 251 * 89) % 256 for i in range(5000)))
+        noise = bytes((i * 167 + i // 251 * 89) % 256 for i in range(5000))
+        (here / "random.gx").write_bytes(noise)
         (here / "zero.gx").write_bytes(b'vertices a from "a\0b" (age: int); print table a;')
         (here / "text.gx").write_bytes(b'vertices a from "\xff" (age: int); print table a;')
         (here / "empty.gx").write_bytes(b"")
@@ -86,10 +88,11 @@ def check_bad_input():
             judge(f"bad input {words}", problem)
 
         with open("/dev/full", "wb") as full:
-            ended = subprocess.run([GX, "run", "s.gx"], cwd=here, stdout=full, stderr=subprocess.DEVNULL)
-        judge("output to a full device", None if ended.returncode == 5 else f"status {ended.returncode}")
+            streams = {"stdout": full, "stderr": subprocess.DEVNULL}
+            status = subprocess.run([GX, "run", "s.gx"], cwd=here, **streams).returncode
+        judge("output to a full device", None if status == 5 else f"status {status}")
 
         (here / "s.gx").chmod(0)
         program = shutil.copy(output_of("tools/program"), here / "gx")
-        ended = run([*as_nobody(), program, "run", "s.gx"], here)
-        judge("a script that may not be read", None if ended.returncode == 4 else f"status {ended.returncode}")
+        status = run([*as_nobody(), program, "run", "s.gx"], here).returncode
+        judge("a script that may not be read", None if status == 4 else f"status {status}")

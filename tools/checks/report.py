@@ -35,15 +35,18 @@ def finish():
 
 
 def run(command, cwd=TOP, **more):
-    return subprocess.run(command, cwd=cwd, capture_output=True, stdin=subprocess.DEVNULL, timeout=3600, **more)
+    streams = {"capture_output": True, "stdin": subprocess.DEVNULL}
+    return subprocess.run(command, cwd=cwd, timeout=3600, **streams, **more)
 
 
 def output_of(*command):
-    """The line that a command prints; its errors go to the reader. It is empty if the command failed."""
+    """The line that a command prints, or nothing if it failed. Its errors go to the reader."""
     ended = subprocess.run(command, cwd=TOP, stdout=subprocess.PIPE, stdin=subprocess.DEVNULL)
     return ended.stdout.decode().strip() if ended.returncode == 0 else ""
 
 
 def as_nobody():
-    """The words before a command that is run with no rights to others' files: root may read and write all."""
-    return [shutil.which("setpriv"), "--reuid=65534", "--regid=65534", "--clear-groups"] if os.geteuid() == 0 else []
+    """What precedes a command so that it may not read or write every file, as root may."""
+    if os.geteuid() != 0:
+        return []
+    return [shutil.which("setpriv"), "--reuid=65534", "--regid=65534", "--clear-groups"]

@@ -1,7 +1,8 @@
 """Checks dist/, the built program that the repository carries, and the launcher that chooses it.
 
-dist/gx must be of these sources and, under the toolchain that built it, have the bytes of the program that the
-gate or the launcher built here. Another toolchain may write other bytes: that is a note, and no failure.
+dist/gx must be of these sources and, under the toolchain that built it, have the bytes of the
+program that the gate or the launcher built here. Another toolchain may write other bytes: that is a
+note, and not a failure.
 """
 
 import shutil
@@ -25,31 +26,36 @@ def difference():
         return note("dist/gx is not compared with a build, as rt is not on the PATH")
     toolchain = output_of("rt", "version")
     if toolchain != recorded("toolchain"):
-        return note(f"dist/gx was built by {recorded('toolchain')}, and here is {toolchain}: {REFRESH}")
+        return note(f"dist/gx was built by {recorded('toolchain')} and not {toolchain}: {REFRESH}")
     built = output_of("tools/program", "built")
     if not built:
         return "there is no build to compare it with"
-    same = Path(built).read_bytes() == (DIST / "gx").read_bytes()
-    return None if same else f"other bytes than {built}, by the same toolchain from the same sources: {REFRESH}"
+    if Path(built).read_bytes() == (DIST / "gx").read_bytes():
+        return None
+    return f"other bytes than {built}, of the same toolchain and sources: {REFRESH}"
 
 
 def check_dist():
     """Returns whether dist/gx is of these sources and for this kind of machine."""
+    is_whole = (DIST / "gx").exists()
+    is_current = is_whole and recorded("sources.sha256") == output_of("tools/sources")
+    problem = None if is_current else f"dist/gx is not of these sources: {REFRESH}"
+    judge("dist/sources.sha256", problem)
     if recorded("machine") != output_of("uname", "-sm"):
         note(f"dist/gx is not compared with a build, as it is for {recorded('machine')}")
         return False
-    is_current = recorded("sources.sha256") == output_of("tools/sources")
-    judge("dist/sources.sha256", None if is_current else f"dist/gx is not of these sources: {REFRESH}")
     if is_current:
         judge("dist/gx", difference())
     return is_current
 
 
 def bare_clone(here):
-    """Copies what the launcher needs, and makes a folder of the commands that it may use: all but rt."""
+    """Copies what the launcher needs, and gives it the commands that it may use, but not rt."""
     clone, commands = here / "clone", here / "commands"
-    for name in ("tools", "dist", "examples", *(f"crates/{it.parent.name}/src" for it in TOP.glob("crates/*/src"))):
+    for name in ("tools", "dist", "examples"):
         shutil.copytree(TOP / name, clone / name)
+    for sources in TOP.glob("crates/*/src"):
+        shutil.copytree(sources, clone / sources.relative_to(TOP))
     for name in ("gx", "crates.txt"):
         shutil.copy2(TOP / name, clone / name)
     commands.mkdir()
@@ -64,15 +70,17 @@ def check_launcher():
     """Runs `./gx` with no toolchain, through a link and in a clone that it may not write to."""
     with tempfile.TemporaryDirectory() as folder:
         clone, env = bare_clone(Path(folder))
-        script = sorted(clone.glob("examples/*/*.gx"))[0]
+        script = min(clone.glob("examples/*/*.gx"))
         command = [*as_nobody(), "../../../link", "run", script.name]
 
         ended = run(command, script.parent, env=env)
-        is_right = ended.returncode == 0 and ended.stdout == script.with_suffix(".out").read_bytes()
-        judge("launcher, no toolchain", None if is_right else f"status {ended.returncode}, {ended.stderr!r}")
+        is_right = ended.stdout == script.with_suffix(".out").read_bytes() and not ended.returncode
+        said = f"status {ended.returncode}, {ended.stderr!r}"
+        judge("launcher with no toolchain", None if is_right else said)
 
-        source = clone / "crates/gx/src/main.rt"
-        source.write_text(source.read_text() + "\n")
+        with open(clone / "crates/gx/src/main.rt", "a") as source:
+            source.write("\n")
         ended = run(command, script.parent, env=env)
-        is_right = ended.returncode == 70 and not ended.stdout and b"put the toolchain's rt on the PATH" in ended.stderr
-        judge("launcher, no toolchain and a changed source", None if is_right else f"status {ended.returncode}, {ended.stderr!r}")
+        is_right = b"put the toolchain's rt on the PATH" in ended.stderr and ended.returncode == 70
+        said = f"status {ended.returncode}, {ended.stderr!r}"
+        judge("launcher with no toolchain and a changed source", None if is_right else said)
