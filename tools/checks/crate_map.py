@@ -14,7 +14,7 @@ import re
 
 from checks.report import TOP, judge
 
-HEAD = re.compile(r"\| crate \| does \| depends on \|$|\|[-| :]+\|$")
+HEAD = re.compile(r"\| crate \| [^|]+ \| depends on \|$|\|[-| :]+\|$")
 GROUP_ROW = re.compile(r"\| \*\*(\w+)\*\* \|[^|]+\| *\|$")
 CRATE_ROW = re.compile(r"\| (?:`(\w+)`|\[`(\w+)`\]\(crates/(\w+)/README\.md\)) \|.+\|([^|]*)\|$")
 
