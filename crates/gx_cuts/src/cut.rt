@@ -7,8 +7,9 @@ ghost use Rattle.gx_cuts.specs.Places.{place_of, random_place};
 use crate::grid::two_d_place;
 use crate::mixing::{mix, part_of, vertex_part};
 
-/// The strategy that places edges in partitions. The first four are those of GraphX's `PartitionStrategy`:
-/// `EdgePartition1D`, `EdgePartition2D`, `RandomVertexCut` and `CanonicalRandomVertexCut`.
+/// The strategy that places edges in partitions. The first four are those of GraphX's
+/// `PartitionStrategy`: `EdgePartition1D`, `EdgePartition2D`, `RandomVertexCut` and
+/// `CanonicalRandomVertexCut`.
 #[derive(Clone, Copy, Debug, PartialEq, Eq)]
 pub enum Cut {
     /// By the source: the edges that leave a vertex are together.
@@ -25,8 +26,8 @@ pub enum Cut {
     Rows,
 }
 
-/// The partition of the edge from `src` to `dst` among `parts` partitions. `ordinal` is the position
-/// of the edge in its file, counted from 0.
+/// The partition of the edge from `src` to `dst` among `parts` partitions. `ordinal` is the
+/// position of the edge in its file, counted from 0.
 pub fn place(cut: Cut, parts: u32, src: i64, dst: i64, ordinal: u64) -> u32
     requires { 1 ≤ parts }
     ensures exact { result ≡ place_of cut parts src dst ordinal }

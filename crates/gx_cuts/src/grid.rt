@@ -28,8 +28,8 @@ pub(crate) fn two_d_place(parts: u32, src: i64, dst: i64) -> u32
     part_of(parts, mix(src) % side * side + mix(dst) % side)
 }
 
-/// A law of the two-dimensional cut: the edges at the vertex `v` are in at most `2s - 1` partitions,
-/// where `s` is the least number whose square is at least `parts`.
+/// A law of the two-dimensional cut: the edges at the vertex `v` are in at most `2s - 1`
+/// partitions. Here `s` is the least number whose square is at least `parts`.
 pub fn two_d_bound(parts: u32, v: i64)
     requires { 1 ≤ parts }
     ensures least_side { IsSide parts (grid_side parts) }

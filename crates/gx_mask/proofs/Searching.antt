@@ -54,7 +54,7 @@ bit_from us q r w b h read =
     let e : 64 * q + (r + b) ≡ 64 * q + r + b = omega arith in
     rw (← e) (in_u64 us q (r + b) h ∙ ap (λ x. bit_at x (r + b) == 1) (sym read) ∙ ap (λ x. x % 2 == 1) (sym (shr-shr w r b)))
 
--- u64 q from `from` on, where the bits before it are 0
+-- u64 q from `from` on, if no bit from `from` on is 1 before it
 pub first_in : (us : List ℕ) (from q w r : ℕ) → HasNone us from (64 * q) → q < length us → w ≡ get_or us q w → w < 2 ^ 64 → r ≡ from - 64 * q → r < 64
     → w / 2 ^ r ≢ 0 → IsFirst us from (64 * q + r + trailing_zeros w64 (w / 2 ^ r))
 first_in us from q w r none within read fits skip short some =

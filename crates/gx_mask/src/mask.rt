@@ -1,7 +1,7 @@
 //! A mask, stored as bits.
 //!
-//! No bit from `len` on is ever 1, so `count` and `next_set` need not look at `len`, and two masks of
-//! one length are combined without a look at the last `u64`. Each method keeps that.
+//! No bit from `len` on is ever 1, so `count` and `next_set` need not look at `len`, and the last
+//! `u64`s of two masks are combined as the others are. Each method keeps that.
 
 ghost use Rattle.std.specs.Prelude.{◌≡◌, ◌<◌, ◌^◌, ◌∷◌, [], length, true, false, map, count_by, IfOk, Some, ℕ, replicate, slice_index, slice_get, slice_set, bit_and};
 ghost use Rattle.std.specs.Int.{bit_not, w64};

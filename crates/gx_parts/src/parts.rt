@@ -90,7 +90,8 @@ impl<T> Parts<T> {
     ) -> Result<Parts<U>, NoMemory>
         requires same_len { length other.now ≡ length self.now }
         requires callable { MayZip (F.pre f) self.now other.now }
-        ensures mapped { IfOk result (λ new. MappedBy (ZipStep (F.post f)) (zip self.now other.now) new) }
+        ensures mapped { IfOk result
+            (λ new. MappedBy (ZipStep (F.post f)) (zip self.now other.now) new) }
         ensures len_kept { IfOk result (λ new. length new ≡ length self.now) }
     {
         let mut items = Vec::with_capacity(alloc, self.len() as usize)?;
@@ -101,8 +102,8 @@ impl<T> Parts<T> {
         Ok(Parts::of(items))
     }
 
-    /// Folds `f` over the parts, from part 0 on: the first call is given `start`, and each other call
-    /// what the call before it returned.
+    /// Folds `f` over the parts, from part 0 on: the first call is given `start`, and each other
+    /// call what the call before it returned.
     ///
     /// # Errors
     ///
