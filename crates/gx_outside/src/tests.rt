@@ -110,7 +110,7 @@ fn files_are_read_in_part(rt: HostRuntime) -> Result<(), Fail> {
     Ok(())
 }
 
-/// Three files, of which two have one name, that give at most two bytes a read.
+/// Three files, two of them with one name. A read returns at most two bytes.
 fn three_files(alloc: Global, failing: &[u64]) -> Result<MemFiles, AllocError> {
     let mut files = Vec::new(alloc);
     for (name, text) in [("a", "first"), ("b", ""), ("a", "second")] {
@@ -120,10 +120,10 @@ fn three_files(alloc: Global, failing: &[u64]) -> Result<MemFiles, AllocError> {
     Ok(MemFiles::of(files, 2, failing.to_vec(alloc)?))
 }
 
-/// Reads once, puts the bytes at the end of `read`, and says how many; `None` where the read failed.
+/// Reads once, appends the bytes to `read`, and returns how many; `None` if the read failed.
 fn read_more(files: &mut MemFiles, read: &mut Vec<u8>) -> Result<Option<usize>, AllocError>
-    requires { is_some files.old.left ≡ true }
-    ensures { is_some files.new.left ≡ true }
+    requires { is_some files.old.rest ≡ true }
+    ensures { is_some files.new.rest ≡ true }
 {
     let mut buf = [0; 4];
     let Ok(count) = files.read(&mut buf) else {
