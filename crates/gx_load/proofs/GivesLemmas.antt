@@ -1,7 +1,7 @@
 -- Answers that stop.
 use Rattle.std.proofs.Common.{◌≡◌, Result, Ok, Err}
 use Rattle.std.specs.Result.{IsErrAnd}
-use Rattle.gx_load.specs.Answers.{Gives}
+use Rattle.gx_load.specs.LoadResults.{Gives}
 use Rattle.gx_load.specs.declared.load_stop.LoadStop.{LoadStop}
 use Rattle.gx_load.specs.declared.load_stop.LoadStop.TheVariants as load_stop
 
