@@ -14,20 +14,20 @@ values_from-step : (row column position : ℕ) (positions : List ℕ) (fields : 
 unfolding values_from
 values_from-step row column position positions fields lt here = rw (drop-cons positions column position lt, ← here, add-one) refl
 
--- a cell with a value moves it to those that stand
-pub values_from-more : (front : List Value) (row column position : ℕ) (positions : List ℕ) (fields : List (List ℕ)) (meant : Result (List Value) LoadStop) (value : Value)
+-- the value of a cell is appended to the values so far
+pub values_from-more : (front : List Value) (row column position : ℕ) (positions : List ℕ) (fields : List (List ℕ)) (defined : Result (List Value) LoadStop) (value : Value)
     → column < length positions → position ≡ get_or positions column position → Ok value ≡ value_at row column position fields
-    → try_append front (values_from row column (drop column positions) fields) ≡ meant
-    → try_append (front ++ value ∷ []) (values_from row (column + 1) (drop (column + 1) positions) fields) ≡ meant
-values_from-more front row column position positions fields meant value lt here read so_far =
+    → try_append front (values_from row column (drop column positions) fields) ≡ defined
+    → try_append (front ++ value ∷ []) (values_from row (column + 1) (drop (column + 1) positions) fields) ≡ defined
+values_from-more front row column position positions fields defined value lt here read so_far =
     sym (try_append-try_cons front value (value_at row column position fields) (values_from row (column + 1) (drop (column + 1) positions) fields) (sym read))
     ∙ sym (ap (try_append front) (values_from-step row column position positions fields lt here)) ∙ so_far
 
 -- a cell that is refused stops the row
-pub values_from-stop : (front : List Value) (row column position : ℕ) (positions : List ℕ) (fields : List (List ℕ)) (meant : Result (List Value) LoadStop) (stop : LoadStop)
+pub values_from-stop : (front : List Value) (row column position : ℕ) (positions : List ℕ) (fields : List (List ℕ)) (defined : Result (List Value) LoadStop) (stop : LoadStop)
     → column < length positions → position ≡ get_or positions column position → Err stop ≡ value_at row column position fields
-    → try_append front (values_from row column (drop column positions) fields) ≡ meant → meant ≡ Err stop
-values_from-stop front row column position positions fields meant stop lt here refused so_far =
+    → try_append front (values_from row column (drop column positions) fields) ≡ defined → defined ≡ Err stop
+values_from-stop front row column position positions fields defined stop lt here refused so_far =
     sym so_far ∙ ap (try_append front) (values_from-step row column position positions fields lt here)
     ∙ try_append-stop front stop (value_at row column position fields) (values_from row (column + 1) (drop (column + 1) positions) fields) (sym refused)
 

@@ -76,7 +76,7 @@ rows_from keys width positions row (fields ∷ rest) =
     if nat_lt MOST_ROWS row then Err load_stop.TooManyRows
     else try_cons (row_of keys width positions row fields) (rows_from keys width positions (row + 1) rest)
 
--- the rows of these records, of which the first is the header
+-- the rows of these records; the first record is the header
 abbrev pub rows_of_records : ℕ → List Column → List (List (List ℕ)) → Result (List LoadedRow) LoadStop
 rows_of_records keys columns [] = Err (load_stop.Data (row_stop.Header 0))
 rows_of_records keys columns (header ∷ records) =
