@@ -12,7 +12,7 @@ Column = List ℕ × ValueKind
 abbrev pub names_of : List Column → List (List ℕ)
 names_of columns = map (λ c. c.0) columns
 
--- no name is there twice
+-- no two columns have one name
 abbrev pub HasDistinctNames : List Column → Type 0
 HasDistinctNames columns = IsDistinct bytes_eq (names_of columns)
 

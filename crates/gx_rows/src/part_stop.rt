@@ -13,7 +13,7 @@ pub enum PartStop {
     Fault {
         /// The vertex or edge on which it has none.
         key: RowKey,
-        /// The number of the expression node that has none; the column for a merge.
+        /// The number of the expression node or of the merged column, as the kernel counts them.
         expr: u32,
         /// Why there is no value.
         cause: Cause,

@@ -3,5 +3,11 @@ use Rattle.gx_rows.proofs.Ties.{equal_values, equal_rows, equal_edges}
 use Rattle.gx_rows.proofs.laws.order_is_total.Goals as goal
 
 pub returns : goal.returns
-returns c =
-    record { values = value_cmp-total; rows = row_cmp-total; edges = edge_cmp-total; equal_values = equal_values; equal_rows = equal_rows; equal_edges = equal_edges }
+returns c = record {
+  values = value_cmp-total;
+  rows = row_cmp-total;
+  edges = edge_cmp-total;
+  equal_values = equal_values;
+  equal_rows = equal_rows;
+  equal_edges = equal_edges;
+}
