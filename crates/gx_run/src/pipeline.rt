@@ -1,9 +1,17 @@
-//! What a script prints, read through a source of files.
+//! The pipeline of a run: script to rows to table to text, each stage a function of the one before.
+//!
+//! A stage that reads files says by `Reads` which word of `specs/Meaning.antt` it computes, and passes
+//! on that contents are kept and that faults only rise. For a new stage, define its word in
+//! `specs/Meaning.antt` and put it into `output_of` there with `>>=`, write the stage with a clause
+//! `Reads` of that word, and call it in `output_of` here with `?`; the clauses of `output_of` and `run`
+//! stay as they are. A new refusal is a variant of `Status` and a line of `Refuses`. Nothing here sees
+//! the arguments or a sink.
 
-ghost use Rattle.std.specs.Prelude.{◌≡◌, ◌≤◌, ◌+◌, ◌⊎◌, ◌∷◌, length, vec_len, codes, All, IfOk, IfErr, slice_get};
-ghost use Rattle.gx_rows.specs.Columns.{names_of};
-ghost use Rattle.gx_run.specs.Answers.{IsAskedOf, Names, Reads};
-ghost use Rattle.gx_run.specs.Meaning.{column_of, file_bytes, form_under, printed, refusal_of, rows_under};
+ghost use Rattle.std.specs.Prelude.{◌≡◌, ◌≤◌, ◌⊎◌, length, vec_len, All, IfOk, IfErr};
+ghost use Rattle.gx_load.specs.Loading.{column_name_of};
+ghost use Rattle.gx_run.specs.Meaning.{file_bytes, output_of, refusal_of, rows_of_file, script_under};
+ghost use Rattle.gx_run.specs.RunResults.{IsScriptOrItsFile};
+ghost use Rattle.gx_run.specs.Steps.{NamesOnly, Reads};
 ghost use Rattle.gx_run.specs.Tables.{entries_of, table};
 ghost use Rattle.gx_run.specs.Texts.{table_text};
 
@@ -16,34 +24,37 @@ use gx_outside::Files;
 use gx_rows::{LimitKind, NoMemory, Row, RowType, Text, ValueKind, Vid};
 use std::alloc::Global;
 
-/// The most bytes of a script.
-const SCRIPT_BYTES: u32 = 1_048_576;
-
-/// The most bytes of a data file.
-const FILE_BYTES: u32 = 33_554_432;
-
-/// What the script of this name prints.
-pub(crate) fn print<F: Files>(alloc: Global, files: &mut F, name: &str) -> Result<Vec<u8>, Status>
-    ensures held { F.held files.new ≡ F.held files.old }
-    ensures later { F.faults files.old ≤ F.faults files.new }
-    ensures reads { Reads (F.held files.old) (F.faults files.old) (F.faults files.new) (λ text. text.items) result (printed name.now) }
-    ensures asked { IfErr result (λ refusal. Names refusal (IsAskedOf name.now (F.held files.old))) }
+/// The output of the script of this name.
+///
+/// # Errors
+///
+/// The status of the first refusal; never `Done`, `Usage` or `Sink`.
+pub(crate) fn output_of<F: Files>(
+    alloc: Global,
+    files: &mut F,
+    name: &str,
+) -> Result<Vec<u8>, Status>
+    ensures contents_kept { F.contents files.new ≡ F.contents files.old }
+    ensures faults_only_rise { F.faults files.old ≤ F.faults files.new }
+    ensures output { Reads (F.contents files.old) (F.faults files.old) (F.faults files.new) (λ text. text.items) result (output_of name.now) }
+    ensures source_is_requested { IfErr result (λ refusal. NamesOnly refusal (IsScriptOrItsFile name.now (F.contents files.old))) }
 {
     let form = read_form(alloc, files, name)?;
     let rows = load_rows(alloc, files, &form)?;
-    table_text_of(alloc, &form, rows)
+    Ok(table_text_of(alloc, &form.columns, rows)?)
 }
 
 // The script of this name.
 fn read_form<F: Files>(alloc: Global, files: &mut F, name: &str) -> Result<Form, Status>
-    ensures held { F.held files.new ≡ F.held files.old }
-    ensures later { F.faults files.old ≤ F.faults files.new }
-    ensures reads { Reads (F.held files.old) (F.faults files.old) (F.faults files.new) (λ form. form) result (form_under name.now) }
-    ensures asked { IfErr result (λ refusal. Names refusal (λ n. n ≡ name.now)) }
+    ensures contents_kept { F.contents files.new ≡ F.contents files.old }
+    ensures faults_only_rise { F.faults files.old ≤ F.faults files.new }
+    ensures script { Reads (F.contents files.old) (F.faults files.old) (F.faults files.new) (λ form. (form.file, form.columns)) result (script_under name.now) }
+    ensures source_is_requested { IfErr result (λ refusal. NamesOnly refusal (λ n. n ≡ name.now)) }
     ensures ints { IfOk result (λ form. All (λ c. c.1 ≡ ValueKind.Int) form.columns) }
     ensures few { IfOk result (λ form. length form.columns ≤ 16) }
 {
-    let bytes = fetch(alloc, files, name, LimitKind::ScriptBytes, SCRIPT_BYTES)?;
+    let kind = LimitKind::ScriptBytes;
+    let bytes = fetch(alloc, files, name, kind, kind.most() as u32)?;
     match form_of(alloc, bytes.as_slice()) {
         Ok(Some(form)) => Ok(form),
         Ok(None) => Err(Status::Script(ScriptStop::Syntax(0, SyntaxKind::Unexpected))),
@@ -59,18 +70,13 @@ fn load_rows<F: Files>(
 ) -> Result<Vec<(Vid, Vid, Row)>, Status>
     requires ints { All (λ c. c.1 ≡ ValueKind.Int) form.now.columns }
     requires few { length form.now.columns ≤ 16 }
-    ensures held { F.held files.new ≡ F.held files.old }
-    ensures later { F.faults files.old ≤ F.faults files.new }
-    ensures reads { Reads (F.held files.old) (F.faults files.old) (F.faults files.new) (λ rows. rows.items) result (rows_under form.now) }
-    ensures asked { IfErr result (λ refusal. Names refusal (λ n. n ≡ form.now.file)) }
+    ensures contents_kept { F.contents files.new ≡ F.contents files.old }
+    ensures faults_only_rise { F.faults files.old ≤ F.faults files.new }
+    ensures rows { Reads (F.contents files.old) (F.faults files.old) (F.faults files.new) (λ rows. rows.items) result (rows_of_file form.now.file form.now.columns) }
+    ensures source_is_requested { IfErr result (λ refusal. NamesOnly refusal (λ n. n ≡ form.now.file)) }
 {
-    let bytes = fetch(
-        alloc,
-        files,
-        form.file.as_str(),
-        LimitKind::FileBytes,
-        FILE_BYTES,
-    )?;
+    let kind = LimitKind::FileBytes;
+    let bytes = fetch(alloc, files, form.file.as_str(), kind, kind.most() as u32)?;
     match rows_of(alloc, bytes.as_slice(), 1, &form.columns) {
         Ok(rows) => Ok(rows),
         Err(stop) => Err(refusal(alloc, form, stop)),
@@ -78,20 +84,18 @@ fn load_rows<F: Files>(
 }
 
 // The text of the table of these rows.
-fn table_text_of(alloc: Global, form: &Form, rows: Vec<(Vid, Vid, Row)>) -> Result<Vec<u8>, Status>
-    ensures text { IfOk result (λ text. text.items ≡ table_text form.now.columns (table (entries_of rows.items))) }
-    ensures refused { IfErr result (λ refusal. refusal ≡ Status.NoMemory) }
+fn table_text_of(
+    alloc: Global,
+    columns: &RowType,
+    rows: Vec<(Vid, Vid, Row)>,
+) -> Result<Vec<u8>, NoMemory>
+    ensures { IfOk result (λ text. text.items ≡ table_text columns.now (table (entries_of rows.items))) }
 {
-    match table_of(rows) {
-        Ok(table) => match text_of(alloc, &form.columns, table.as_slice()) {
-            Ok(text) => Ok(text),
-            Err(_) => Err(Status::NoMemory),
-        },
-        Err(_) => Err(Status::NoMemory),
-    }
+    let table = table_of(rows)?;
+    text_of(alloc, columns, table.as_slice())
 }
 
-// The whole bytes of a file that has at most so many.
+// All bytes of a file, which may have at most so many.
 fn fetch<F: Files>(
     alloc: Global,
     files: &mut F,
@@ -99,11 +103,11 @@ fn fetch<F: Files>(
     kind: LimitKind,
     most: u32,
 ) -> Result<Vec<u8>, Status>
-    ensures held { F.held files.new ≡ F.held files.old }
-    ensures later { F.faults files.old ≤ F.faults files.new }
+    ensures contents_kept { F.contents files.new ≡ F.contents files.old }
+    ensures faults_only_rise { F.faults files.old ≤ F.faults files.new }
     ensures within { IfOk result (λ bytes. vec_len bytes ≤ most) }
-    ensures reads { Reads (F.held files.old) (F.faults files.old) (F.faults files.new) (λ bytes. bytes.items) result (file_bytes kind most name.now) }
-    ensures asked { IfErr result (λ refusal. Names refusal (λ n. n ≡ name.now)) }
+    ensures bytes { Reads (F.contents files.old) (F.faults files.old) (F.faults files.new) (λ bytes. bytes.items) result (file_bytes kind most name.now) }
+    ensures source_is_requested { IfErr result (λ refusal. NamesOnly refusal (λ n. n ≡ name.now)) }
 {
     match read_all(alloc, files, name, most) {
         Ok(bytes) => Ok(bytes),
@@ -125,10 +129,10 @@ fn source(alloc: Global, name: &str) -> Status
 
 // The refusal of a data file that is not loaded.
 fn refusal(alloc: Global, form: &Form, stop: LoadStop) -> Status
-    ensures { (result ≡ refusal_of form.now stop) ⊎ (result ≡ Status.NoMemory) }
+    ensures { (result ≡ refusal_of form.now.file form.now.columns stop) ⊎ (result ≡ Status.NoMemory) }
 {
     match stop {
-        LoadStop::Data(place) => match data_stop(alloc, form, place) {
+        LoadStop::Data(position) => match data_stop(alloc, form, position) {
             Ok(stop) => Status::Data(stop),
             Err(_) => Status::NoMemory,
         },
@@ -137,38 +141,27 @@ fn refusal(alloc: Global, form: &Form, stop: LoadStop) -> Status
     }
 }
 
-// The refused place of the script's data file, with the names of the file and the column.
-fn data_stop(alloc: Global, form: &Form, place: RowStop) -> Result<DataStop, NoMemory>
-    ensures { IfOk result (λ d. (d.file ≡ form.now.file) × (d.column ≡ column_of form.now.columns place) × (d.stop ≡ place)) }
+// The refused position of the script's data file, with the names of the file and the column.
+fn data_stop(alloc: Global, form: &Form, position: RowStop) -> Result<DataStop, NoMemory>
+    ensures { IfOk result (λ d. (d.file ≡ form.now.file) × (d.column ≡ column_name_of 1 form.now.columns position) × (d.stop ≡ position)) }
 {
     Ok(DataStop {
         file: Text::of(alloc, form.file.as_str())?,
-        column: column_name(alloc, &form.columns, place)?,
-        stop: place,
+        column: column_text(alloc, &form.columns, position)?,
+        stop: position,
     })
 }
 
-// The name of the column of a refused place, where the place has one.
-fn column_name(alloc: Global, columns: &RowType, place: RowStop) -> Result<Option<Text>, NoMemory>
-    ensures { IfOk result (λ name. name ≡ column_of columns.now place) }
+// The name of the column of a refused position, if the position is a column's.
+fn column_text(
+    alloc: Global,
+    columns: &RowType,
+    position: RowStop,
+) -> Result<Option<Text>, NoMemory>
+    ensures { IfOk result (λ name. name ≡ column_name_of 1 columns.now position) }
 {
-    match place {
-        RowStop::Header(column) => name_at(alloc, columns, column),
-        RowStop::Cell { column, .. } => name_at(alloc, columns, column),
-        RowStop::Shape(_) => Ok(None),
-        RowStop::Line(_) => Ok(None),
+    match position.column_name(1, columns) {
+        Some(name) => Ok(Some(Text::of(alloc, name)?)),
+        None => Ok(None),
     }
-}
-
-// The name of a column, where the identifier's column counts first.
-fn name_at(alloc: Global, columns: &RowType, column: u32) -> Result<Option<Text>, NoMemory>
-    ensures { IfOk result (λ name. name ≡ slice_get (codes "id" ∷ names_of columns.now) column) }
-{
-    if column == 0 {
-        return Ok(Some(Text::of(alloc, "id")?));
-    }
-    if column - 1 < columns.len() {
-        return Ok(Some(Text::of(alloc, columns.name(column - 1))?));
-    }
-    Ok(None)
 }
