@@ -1,9 +1,25 @@
 //! What loading returns, over tables of texts.
 
+ghost use Rattle.std.specs.Prelude.{◌≡◌, ◌⊎◌, ◌∷◌, ◌++◌, [], length, All, IfOk, OnOk};
+ghost use Rattle.gx_rows.specs.declared.value.ValueKind.TheVariants as ValueKind;
+
 use super::*;
-use gx_rows::{NoMemory, Text, Value, ValueKind};
+use gx_rows::{Text, Value, ValueKind};
 use std::process::Abort;
 use std::test::Fail;
+
+// Adds the int column of this name.
+fn add_column(
+    alloc: Global,
+    columns: &mut Vec<(Text, ValueKind)>,
+    name: &str,
+) -> Result<(), NoMemory>
+    ensures { OnOk result (columns.new.items ≡ columns.old.items ++ (name.now, ValueKind.Int) ∷ []) }
+{
+    let name = Text::of(alloc, name)?;
+    columns.push((name, ValueKind::Int))?;
+    Ok(())
+}
 
 // The int columns `a` and `b`.
 fn columns(alloc: Global) -> Result<RowType, NoMemory>
@@ -11,14 +27,15 @@ fn columns(alloc: Global) -> Result<RowType, NoMemory>
     ensures ints { IfOk result (λ t. All (λ c. c.1 ≡ ValueKind.Int) t) }
 {
     let mut columns = Vec::new(alloc);
-    columns.push((Text::of(alloc, "a")?, ValueKind::Int))?;
-    columns.push((Text::of(alloc, "b")?, ValueKind::Int))?;
+    add_column(alloc, &mut columns, "a")?;
+    add_column(alloc, &mut columns, "b")?;
     Ok(RowType::of(columns))
 }
 
-// The keys and the values of a row, as text.
-fn spelled(alloc: Global, row: &(Vid, Vid, Row)) -> Result<String, NoMemory> {
-    let mut text = format!(in alloc; "{} {}", row.0.0, row.1.0)?;
+// Appends the keys and the values of a row, as text.
+fn put_row(alloc: Global, text: &mut String, row: &(Vid, Vid, Row)) -> Result<(), NoMemory> {
+    let keys = format!(in alloc; "{} {}", row.0.0, row.1.0)?;
+    text.push_str(&keys)?;
     for value in row.2.as_slice() {
         if let Value::Int(number) = value {
             let more = format!(in alloc; " {number}")?;
@@ -26,11 +43,11 @@ fn spelled(alloc: Global, row: &(Vid, Vid, Row)) -> Result<String, NoMemory> {
         }
     }
     text.push_str(";")?;
-    Ok(text)
+    Ok(())
 }
 
 // What loading returns, as text.
-fn answer(rt: &impl Abort, alloc: Global, bytes: &[u8], keys: u32) -> Result<String, NoMemory>
+fn loaded_text(rt: &impl Abort, alloc: Global, bytes: &[u8], keys: u32) -> Result<String, NoMemory>
     requires { (keys ≡ 1) ⊎ (keys ≡ 2) }
 {
     assert!(rt; bytes.len() < 1 << 32);
@@ -41,14 +58,36 @@ fn answer(rt: &impl Abort, alloc: Global, bytes: &[u8], keys: u32) -> Result<Str
     };
     let mut text = String::new(alloc);
     for row in &rows {
-        let line = spelled(alloc, row)?;
-        text.push_str(&line)?;
+        put_row(alloc, &mut text, row)?;
     }
     Ok(text)
 }
 
+// Stops the test unless loading these bytes returns what is expected.
+fn assert_loads(
+    rt: &impl Abort,
+    alloc: Global,
+    keys: u32,
+    bytes: &[u8],
+    expected: &str,
+) -> Result<(), NoMemory>
+    requires { (keys ≡ 1) ⊎ (keys ≡ 2) }
+{
+    let text = loaded_text(rt, alloc, bytes, keys)?;
+    assert_eq!(rt; text.as_str(), expected, "at {bytes:?}");
+    Ok(())
+}
+
+// A file with one row, whose second cell is this one in quotes.
+fn file_with_cell(alloc: Global, cell: &[u8]) -> Result<Vec<u8>, NoMemory> {
+    let mut bytes = Vec::from_slice(alloc, b"id,a,b\n1,\"")?;
+    bytes.extend_from_slice(cell)?;
+    bytes.extend_from_slice(b"\",3\n")?;
+    Ok(bytes)
+}
+
 #[test]
-fn loads_rows_or_the_first_refused_position(rt: HostRuntime) -> Result<(), Fail> {
+fn loads_vertices(rt: HostRuntime) -> Result<(), Fail> {
     let vertices = [
         // the byte order mark, and what ends a record
         ("\u{feff}id,a,b\n1,2,3\n", "1 0 2 3;"),
@@ -103,9 +142,13 @@ fn loads_rows_or_the_first_refused_position(rt: HostRuntime) -> Result<(), Fail>
         ("id,a\n1,2\n", "Data(Header(2))"),
     ];
     for (text, expected) in vertices {
-        let answered = answer(&rt, rt.alloc(), text.as_bytes(), 1)?;
-        assert_eq!(rt; answered.as_str(), expected, "at {text:?}");
+        assert_loads(&rt, rt.alloc(), 1, text.as_bytes(), expected)?;
     }
+    Ok(())
+}
+
+#[test]
+fn loads_edges(rt: HostRuntime) -> Result<(), Fail> {
     let edges = [
         ("src,dst,a,b\n1,2,3,4\n-5,6,7,8\n", "1 2 3 4;-5 6 7 8;"),
         ("b,dst,src,a\n4,2,1,3\n", "1 2 3 4;"),
@@ -121,9 +164,13 @@ fn loads_rows_or_the_first_refused_position(rt: HostRuntime) -> Result<(), Fail>
         ),
     ];
     for (text, expected) in edges {
-        let answered = answer(&rt, rt.alloc(), text.as_bytes(), 2)?;
-        assert_eq!(rt; answered.as_str(), expected, "at {text:?}");
+        assert_loads(&rt, rt.alloc(), 2, text.as_bytes(), expected)?;
     }
+    Ok(())
+}
+
+#[test]
+fn refuses_cells_that_are_not_numbers(rt: HostRuntime) -> Result<(), Fail> {
     let not_numbers: [&[u8]; 9] = [
         b"-",
         b"+-1",
@@ -135,13 +182,10 @@ fn loads_rows_or_the_first_refused_position(rt: HostRuntime) -> Result<(), Fail>
         b"\xc2\xa01",
         b"1\n",
     ];
+    let expected = "Data(Cell { row: 1, column: 1, kind: NotInt })";
     for cell in not_numbers {
-        let mut bytes = Vec::from_slice(rt.alloc(), b"id,a,b\n1,\"")?;
-        bytes.extend_from_slice(cell)?;
-        bytes.extend_from_slice(b"\",3\n")?;
-        let answered = answer(&rt, rt.alloc(), bytes.as_slice(), 1)?;
-        let expected = "Data(Cell { row: 1, column: 1, kind: NotInt })";
-        assert_eq!(rt; answered.as_str(), expected, "at {cell:?}");
+        let bytes = file_with_cell(rt.alloc(), cell)?;
+        assert_loads(&rt, rt.alloc(), 1, bytes.as_slice(), expected)?;
     }
     Ok(())
 }
