@@ -1,11 +1,11 @@
 //! The pipeline of a run: script to rows to table to text, each stage a function of the one before.
 //!
-//! A stage that reads files says by `Reads` which word of `specs/Meaning.antt` it computes, and passes
-//! on that contents are kept and that faults only rise. For a new stage, define its word in
-//! `specs/Meaning.antt` and put it into `output_of` there with `>>=`, write the stage with a clause
-//! `Reads` of that word, and call it in `output_of` here with `?`; the clauses of `output_of` and `run`
-//! stay as they are. A new refusal is a variant of `Status` and a line of `Refuses`. Nothing here sees
-//! the arguments or a sink.
+//! To add a stage, define its result in `specs/Meaning.antt` and put it into `output_of` there with
+//! `>>=`, write the stage here with a clause `Reads` of that definition, and call it in `output_of`
+//! here with `?`; the clauses of `output_of` and `run` stay as they are. A stage that reads files also
+//! passes on that contents are kept and that faults only rise. A new refusal is a variant of `Status`,
+//! and a case of `code_of`, `Refuses`, `RefusesUnknown` and `NamesOnly`. Nothing here sees the
+//! arguments or a sink.
 
 ghost use Rattle.std.specs.Prelude.{◌≡◌, ◌≤◌, ◌⊎◌, length, vec_len, All, IfOk, IfErr};
 ghost use Rattle.gx_load.specs.Loading.{column_name_of};
