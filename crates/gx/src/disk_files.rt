@@ -7,8 +7,8 @@ use gx_outside::{Failed, Files};
 use std::io::Read;
 use std::{fs, rt};
 
-/// The files that the operating system has, by their paths. Their contents are unknown to contracts.
-/// Faults are counted, and an absent file is one.
+/// The files that the operating system has, by their paths. Their contents are unknown to
+/// contracts. Faults are counted, and an absent file is one.
 #[derive(Drop)]
 pub(crate) struct DiskFiles<'a, R: rt::Files>
 where

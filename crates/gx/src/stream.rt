@@ -5,8 +5,8 @@ ghost use Rattle.std.specs.Prelude.{◌≡◌, None};
 use gx_outside::{Failed, Sink};
 use std::io::Write;
 
-/// A stream of the process, as its standard output. What was written is unknown to contracts. Faults
-/// are counted, and a write that takes nothing of a piece that is not empty is one.
+/// A stream of the process, as its standard output. What was written is unknown to contracts.
+/// Faults are counted, and a write that takes nothing of a piece that is not empty is one.
 #[derive(Drop)]
 pub(crate) struct Stream<W: Write + Drop> {
     writer: W,

@@ -11,7 +11,8 @@ HasBytes (Some contents) name bytes = bytes_under name contents ≡ Some bytes
 -- if the contents are known, the file of this name has more bytes than the limit
 abbrev pub IsLonger : Option Contents → List ℕ → ℕ → Type 0
 IsLonger None name limit = ⊤
-IsLonger (Some contents) name limit = (bytes : List ℕ) × (bytes_under name contents ≡ Some bytes) × (limit < length bytes)
+IsLonger (Some contents) name limit =
+    (bytes : List ℕ) × (bytes_under name contents ≡ Some bytes) × (limit < length bytes)
 
 -- the contents are known, and the file of this name has more bytes than the limit
 abbrev pub IsKnownLonger : Option Contents → List ℕ → ℕ → Type 0
@@ -27,4 +28,5 @@ HasReadAtMost most (Some contents) name (Some rest) =
 
 -- the known bytes begin with at most so many bytes, and lose them
 abbrev pub ConsumesAtMost : ℕ → Option (List ℕ) → Option (List ℕ) → Type 0
-ConsumesAtMost most before after = (bytes : List ℕ) × (length bytes ≤ most) × Consumes before after bytes
+ConsumesAtMost most before after =
+    (bytes : List ℕ) × (length bytes ≤ most) × Consumes before after bytes

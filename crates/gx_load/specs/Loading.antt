@@ -25,30 +25,37 @@ MOST_ROWS = 500000
 abbrev pub key_names : ℕ → List (List ℕ)
 key_names keys = if keys == 1 then codes "id" ∷ [] else codes "src" ∷ codes "dst" ∷ []
 
--- the name of the column of a refused position, the key columns first, if the position is a column's
+-- the name of the column of a refused position, the key columns first, if the position is a
+-- column's
 abbrev pub column_name_of : ℕ → List Column → RowStop → Option (List ℕ)
-column_name_of keys columns (row_stop.Header column) = slice_get (key_names keys ++ names_of columns) column
+column_name_of keys columns (row_stop.Header column) =
+    slice_get (key_names keys ++ names_of columns) column
 column_name_of keys columns (row_stop.Shape row) = None
-column_name_of keys columns (row_stop.Cell row column kind) = slice_get (key_names keys ++ names_of columns) column
+column_name_of keys columns (row_stop.Cell row column kind) =
+    slice_get (key_names keys ++ names_of columns) column
 column_name_of keys columns (row_stop.Line line) = None
 
 -- the position of a column in the header, which must have its name; blanks around header fields do
 -- not count
 abbrev pub column_position : ℕ → List ℕ → List (List ℕ) → Result ℕ LoadStop
-column_position column name header = ok_or (position_of name (map trim header)) (load_stop.Data (row_stop.Header column))
+column_position column name header =
+    ok_or (position_of name (map trim header)) (load_stop.Data (row_stop.Header column))
 
 -- the positions of these columns, which are numbered from this one on
 unfoldable pub positions_from : ℕ → List (List ℕ) → List (List ℕ) → Result (List ℕ) LoadStop
 positions_from column [] header = Ok []
-positions_from column (name ∷ names) header = try_cons (column_position column name header) (positions_from (column + 1) names header)
+positions_from column (name ∷ names) header =
+    try_cons (column_position column name header) (positions_from (column + 1) names header)
 
 -- the whole number in a cell of a row, which must be one
 abbrev pub int_at : ℕ → ℕ → ℕ → List (List ℕ) → Result ℤ LoadStop
-int_at row column position fields = ok_or (int_of (slice_index_or fields position [])) (load_stop.Data (row_stop.Cell row column cell_kind.NotInt))
+int_at row column position fields =
+    ok_or (int_of (slice_index_or fields position [])) (load_stop.Data (row_stop.Cell row column cell_kind.NotInt))
 
 -- the value in a cell of a row
 abbrev pub value_at : ℕ → ℕ → ℕ → List (List ℕ) → Result Value LoadStop
-value_at row column position fields = int_at row column position fields >>= λ number. Ok (value.Int number)
+value_at row column position fields =
+    int_at row column position fields >>= λ number. Ok (value.Int number)
 
 -- the values in the cells at these positions; their columns are numbered from this one on
 unfoldable pub values_from : ℕ → ℕ → List ℕ → List (List ℕ) → Result (List Value) LoadStop
@@ -85,4 +92,5 @@ rows_of_records keys columns (header ∷ records) =
 
 -- the rows of a data file; its records are those of `csv` after one byte order mark
 abbrev pub rows_of_csv : ℕ → List Column → List ℕ → Result (List LoadedRow) LoadStop
-rows_of_csv keys columns bytes = rows_of_records keys columns (records default_config (strip_bom bytes))
+rows_of_csv keys columns bytes =
+    rows_of_records keys columns (records default_config (strip_bom bytes))

@@ -1,4 +1,5 @@
-//! The header of a data file: at which positions its columns are, and how the key columns are named.
+//! The header of a data file: at which positions its columns are, and how the key columns are
+//! named.
 
 ghost use Rattle.std.specs.Prelude.{◌≡◌, ◌<◌, ◌≤◌, ◌+◌, ◌^◌, ◌⊎◌, ◌++◌, length, map, slice_get, vec_len, IfOk, Some};
 ghost use Rattle.csv.specs.Records.{fields_of};
@@ -69,7 +70,8 @@ fn positions_of(
 ) -> Result<Vec<usize>, LoadStop>
     requires keyed { (keys ≡ 1) ⊎ (keys ≡ 2) }
     requires few { keys + length columns.now < 2 ^ 32 }
-    ensures positions { Gives (λ v. v.items) result (positions_from 0 (key_names keys ++ names_of columns.now) (fields_of header.now)) }
+    ensures positions { Gives (λ v. v.items) result
+        (positions_from 0 (key_names keys ++ names_of columns.now) (fields_of header.now)) }
     ensures count { IfOk result (λ v. vec_len v ≡ keys + length columns.now) }
 {
     let count = keys + columns.len();
@@ -108,7 +110,8 @@ impl Header {
     ) -> Result<Header, LoadStop>
         requires keyed { (keys ≡ 1) ⊎ (keys ≡ 2) }
         requires few { keys + length columns.now < 2 ^ 32 }
-        ensures positions { Gives (λ h. h.positions.items) result (positions_from 0 (key_names keys ++ names_of columns.now) (fields_of fields.now)) }
+        ensures positions { Gives (λ h. h.positions.items) result
+            (positions_from 0 (key_names keys ++ names_of columns.now) (fields_of fields.now)) }
         ensures keys_kept { IfOk result (λ h. h.keys ≡ keys) }
         ensures width_is_field_count { IfOk result (λ h. h.width ≡ length (fields_of fields.now)) }
     {

@@ -75,7 +75,8 @@ impl RowStop {
 // The name of a column, if the file has so many.
 fn name_if_any(keys: u32, columns: &RowType, column: u32) -> Option<&str>
     requires { (keys ≡ 1) ⊎ (keys ≡ 2) }
-    ensures { option_map (λ name. name.now) result ≡ slice_get (key_names keys ++ names_of columns.now) column }
+    ensures { option_map (λ name. name.now) result ≡ slice_get
+        (key_names keys ++ names_of columns.now) column }
 {
     if column < keys || column - keys < columns.len() {
         Some(column_name(keys, columns, column))

@@ -20,7 +20,8 @@ fn rows_from(
     records: &mut Records,
     fields: &mut ByteRecord,
 ) -> Result<Vec<(Vid, Vid, Row)>, LoadStop>
-    ensures { Gives (λ v. v.items) result (rows_from header.now.keys header.now.width header.now.positions.items 1 records.old) }
+    ensures { Gives (λ v. v.items) result (rows_from header.now.keys header.now.width
+        header.now.positions.items 1 records.old) }
 {
     let most = LimitKind::FileRows.most() as u32;
     let mut rows = Vec::new(alloc);
@@ -41,8 +42,8 @@ fn rows_from(
 ///
 /// # Errors
 ///
-/// `Data` with the first refused position, `TooManyRows` if there are more than 500,000 rows and none
-/// of the first 500,000 is refused, `NoMemory`.
+/// `Data` with the first refused position, `TooManyRows` if there are more than 500,000 rows and
+/// none of the first 500,000 is refused, `NoMemory`.
 pub fn rows_of(
     alloc: Global,
     bytes: &[u8],

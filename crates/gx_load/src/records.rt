@@ -12,13 +12,13 @@ use gx_rows::NoMemory;
 use std::alloc::Global;
 use std::marker::Model;
 
-/// The records of a text that are still to be taken. Contracts see a list of records, each of them as
-/// the list of its fields' bytes.
+/// The records of a text that are still to be taken. Contracts see a list of records, each of them
+/// as the list of its fields' bytes.
 #[derive(Drop)]
 pub(crate) struct Records<'a> {
     reader: Reader<&'a [u8]>,
-    // `csv` returns 'no record' at the end of the text and after a failure alike, and says nothing of
-    // a reader that met either, so it is not called again.
+    // `csv` returns 'no record' at the end of the text and after a failure alike, and says nothing
+    // of a reader that met either, so it is not called again.
     live: bool,
 }
 
@@ -53,7 +53,8 @@ impl<'a> Records<'a> {
     ///
     /// `NoMemory` if there is no room for the record. No further record is returned then.
     pub(crate) fn take(&mut self, row: &mut ByteRecord) -> Result<bool, NoMemory>
-        ensures { IfOk result (λ found. MatchBool found (self.old ≡ fields_of row.new ∷ self.new) ((self.old ≡ []) × (self.new ≡ []))) }
+        ensures { IfOk result (λ found. MatchBool found (self.old ≡ fields_of row.new ∷ self.new)
+            ((self.old ≡ []) × (self.new ≡ []))) }
     {
         if !self.live {
             return Ok(false);

@@ -1,5 +1,5 @@
-//! A record to a row. Each cell is read from the record itself, at its column's position, so that no
-//! list of cells is made in between.
+//! A record to a row. Each cell is read from the record itself, at its column's position, so that
+//! no list of cells is made in between.
 
 ghost use Rattle.std.specs.Prelude.{◌≡◌, ◌==◌, ◌<◌, ◌^◌, [], drop, vec_len, slice_index_or, if◌then◌else◌, pos, Ok, IfOk};
 ghost use Rattle.csv.specs.Records.{fields_of};
@@ -38,7 +38,8 @@ fn value_at(row: u32, column: u32, position: usize, fields: &ByteRecord) -> Resu
 
 // The second key of a row, which is 0 if there is one key.
 fn second_key(header: &Header, row: u32, fields: &ByteRecord) -> Result<i64, LoadStop>
-    ensures { result ≡ (if header.now.keys == 1 then Ok (pos 0) else int_at row 1 (slice_index_or header.now.positions.items 1 0) (fields_of fields.now)) }
+    ensures { result ≡ (if header.now.keys == 1 then Ok (pos 0) else int_at row 1
+        (slice_index_or header.now.positions.items 1 0) (fields_of fields.now)) }
 {
     if header.keys == 1 {
         Ok(0)
@@ -54,7 +55,9 @@ fn values_of(
     row: u32,
     fields: &ByteRecord,
 ) -> Result<Vec<Value>, LoadStop>
-    ensures values { Gives (λ v. v.items) result (values_from row header.now.keys (drop header.now.keys header.now.positions.items) (fields_of fields.now)) }
+    ensures values { Gives (λ v. v.items) result
+        (values_from row header.now.keys (drop header.now.keys header.now.positions.items)
+        (fields_of fields.now)) }
     ensures few { IfOk result (λ v. vec_len v < 2 ^ 32) }
 {
     let count = header.positions.len() as u32;
@@ -74,7 +77,8 @@ fn cells_of(
     row: u32,
     fields: &ByteRecord,
 ) -> Result<(Vid, Vid, Row), LoadStop>
-    ensures { Gives (λ r. r) result (cells_of header.now.keys header.now.positions.items row (fields_of fields.now)) }
+    ensures { Gives (λ r. r) result (cells_of header.now.keys header.now.positions.items row
+        (fields_of fields.now)) }
 {
     let first = int_at(row, 0, header.positions[0], fields)?;
     let second = second_key(header, row, fields)?;
@@ -93,7 +97,8 @@ pub(crate) fn row_of(
     row: u32,
     fields: &ByteRecord,
 ) -> Result<(Vid, Vid, Row), LoadStop>
-    ensures { Gives (λ r. r) result (row_of header.now.keys header.now.width header.now.positions.items row (fields_of fields.now)) }
+    ensures { Gives (λ r. r) result (row_of header.now.keys header.now.width
+        header.now.positions.items row (fields_of fields.now)) }
 {
     if fields.len() == header.width {
         cells_of(alloc, header, row, fields)

@@ -24,4 +24,5 @@ Opens (Some contents) name rest = IsSome rest × (bytes_under name contents ≡ 
 
 -- the call fails only if it counted a fault or the name is known to be absent
 abbrev pub HasOpenCause : {A E : Type 0} → ℕ → ℕ → Option Contents → List ℕ → Result A E → Type 0
-HasOpenCause before after contents name r = OnErr r (FaultCounted before after ⊎ IsKnownAbsent contents name)
+HasOpenCause before after contents name r =
+    OnErr r (FaultCounted before after ⊎ IsKnownAbsent contents name)

@@ -25,7 +25,8 @@ fails_write s piece = fails_next s.counts || (nat_lt 0 (length piece) && s.room 
 
 -- the most bytes that the next write takes, however much room there is
 abbrev pub most_written : SinkState → List ℕ → ℕ
-most_written s piece = min (unwrap_or (slice_get s.pieces s.counts.calls) (length piece)) (length piece)
+most_written s piece =
+    min (unwrap_or (slice_get s.pieces s.counts.calls) (length piece)) (length piece)
 
 -- how many bytes the next write takes, if it does not fail
 abbrev pub write_count : SinkState → List ℕ → ℕ

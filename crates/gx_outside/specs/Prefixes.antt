@@ -5,4 +5,5 @@ use Rattle.std.specs.Prelude.{◌≡◌, ◌<◌, ℕ, ⊤, List, ◌++◌, Opti
 abbrev pub AppendsProperPrefix : Option (List ℕ) → Option (List ℕ) → List ℕ → Type 0
 AppendsProperPrefix None new text = ⊤
 AppendsProperPrefix (Some xs) None text = ⊥
-AppendsProperPrefix (Some xs) (Some ys) text = (n : ℕ) × (n < length text) × (ys ≡ xs ++ take n text)
+AppendsProperPrefix (Some xs) (Some ys) text =
+    (n : ℕ) × (n < length text) × (ys ≡ xs ++ take n text)

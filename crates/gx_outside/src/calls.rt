@@ -48,7 +48,8 @@ impl Calls {
         self.faults
     }
 
-    /// Counts a call, and returns whether it fails by its number. That is a fault, and is counted too.
+    /// Counts a call, and returns whether it fails by its number. That is a fault, and is counted
+    /// too.
     pub(crate) fn count_call(&mut self) -> bool
         ensures fails_by_number { result ≡ fails_next self.old }
         ensures call_counted { self.new ≡ after_call self.old }

@@ -25,19 +25,20 @@ pub trait Files {
     ///
     /// # Errors
     ///
-    /// `Failed` if the source met a fault, which it counts, or if its contents are known and have no
-    /// such name. No file is open then.
+    /// `Failed` if the source met a fault, which it counts, or if its contents are known and have
+    /// no such name. No file is open then.
     fn open(&mut self, name: &str) -> Result<(), Failed>
         ensures contents_kept { contents self.new ≡ contents self.old }
         ensures faults_only_rise { faults self.old ≤ faults self.new }
         ensures open_if_ok { OnOk result (is_open self.new ≡ true) }
-        ensures rest_is_whole_file { OnOk result (Opens (contents self.old) name.now (rest self.new)) }
+        ensures rest_is_whole_file { OnOk result
+            (Opens (contents self.old) name.now (rest self.new)) }
         ensures closed_if_err { OnErr result (is_open self.new ≡ false) }
         ensures err_has_cause { HasOpenCause (faults self.old) (faults self.new) (contents self.old)
             name.now result };
 
-    /// Moves the next bytes of the open file to the start of `buf` and returns how many: at least one
-    /// if `buf` has room and the file is not at its end.
+    /// Moves the next bytes of the open file to the start of `buf` and returns how many: at least
+    /// one if `buf` has room and the file is not at its end.
     ///
     /// # Errors
     ///

@@ -47,9 +47,9 @@ impl Model for MemFiles {
 }
 
 impl MemFiles {
-    /// These files, none of them open. Of files with one name the first alone counts. A read returns
-    /// at most `piece` bytes. Calls are numbered from 0 over opens and reads together, and a call
-    /// fails if `failing` has its number.
+    /// These files, none of them open. Of files with one name the first alone counts. A read
+    /// returns at most `piece` bytes. Calls are numbered from 0 over opens and reads together, and
+    /// a call fails if `failing` has its number.
     pub fn of(files: Vec<(String, Vec<u8>)>, piece: usize, failing: Vec<u64>) -> MemFiles
         requires { 1 ≤ piece }
         ensures { result ≡ fresh_files (contents_of files.items) piece failing.items }
@@ -83,13 +83,14 @@ impl Files for MemFiles {
     ///
     /// # Errors
     ///
-    /// `Failed` if this call has the number of one that fails, which is a fault and is counted, or if
-    /// there is no file of this name. No file is open then.
+    /// `Failed` if this call has the number of one that fails, which is a fault and is counted, or
+    /// if there is no file of this name. No file is open then.
     fn open(&mut self, name: &str) -> Result<(), Failed>
         ensures contents_kept { self.new.contents ≡ self.old.contents }
         ensures faults_only_rise { self.old.counts.faults ≤ self.new.counts.faults }
         ensures open_if_ok { OnOk result (is_some self.new.rest ≡ true) }
-        ensures rest_is_whole_file { OnOk result (Opens (Some self.old.contents) name.now self.new.rest) }
+        ensures rest_is_whole_file { OnOk result
+            (Opens (Some self.old.contents) name.now self.new.rest) }
         ensures closed_if_err { OnErr result (is_some self.new.rest ≡ false) }
         ensures err_has_cause { HasOpenCause self.old.counts.faults self.new.counts.faults
             (Some self.old.contents) name.now result }
@@ -126,7 +127,8 @@ impl Files for MemFiles {
         ensures fails_by_number { is_err result ≡ fails_next self.old.counts }
         ensures within_piece { IfOk result (λ n. n ≤ self.old.piece) }
         ensures count_exact { IfOk result (λ n. n ≡ read_count self.old (length buf.old)) }
-        ensures buf_filled { IfOk result (λ n. buf.new ≡ take n (unwrap_or self.old.rest []) ++ drop n buf.old) }
+        ensures buf_filled { IfOk result
+            (λ n. buf.new ≡ take n (unwrap_or self.old.rest []) ++ drop n buf.old) }
         ensures buf_kept_if_err { OnErr result (buf.new ≡ buf.old) }
         ensures state_if_ok { OnOk result (self.new ≡ after_read self.old (length buf.old)) }
         ensures state_if_err { OnErr result (self.new ≡ after_failed_read self.old) }

@@ -1,5 +1,5 @@
-//! A sink in memory, for tests and for contracts that name what was written: writes take a few bytes
-//! at a time, and chosen calls fail.
+//! A sink in memory, for tests and for contracts that name what was written: writes take a few
+//! bytes at a time, and chosen calls fail.
 
 ghost use Rattle.std.specs.Prelude.{◌≡◌, ◌≤◌, ◌<◌, length, Some, slice_get, IfOk, IsOk, OnOk, OnErr, is_err};
 ghost use Rattle.std.specs.Option.{unwrap_or};
@@ -14,9 +14,9 @@ use gx_rows::NoMemory;
 use std::alloc::Global;
 use std::marker::Model;
 
-/// A sink that keeps the bytes in memory. Each write takes at most a chosen number of bytes, and the
-/// writes with chosen numbers fail. Contracts see its bytes, its room, the most that each write takes,
-/// and its counts.
+/// A sink that keeps the bytes in memory. Each write takes at most a chosen number of bytes, and
+/// the writes with chosen numbers fail. Contracts see its bytes, its room, the most that each write
+/// takes, and its counts.
 #[derive(Debug, Drop)]
 pub struct MemSink {
     bytes: Vec<u8>,
@@ -89,17 +89,19 @@ impl Sink for MemSink {
 
     ghost faults = { λ s. s.counts.faults };
 
-    /// Takes bytes from the start of `piece`, as many as this write may take and as there is room for.
+    /// Takes bytes from the start of `piece`, as many as this write may take and as there is room
+    /// for.
     ///
     /// # Errors
     ///
-    /// `Failed` if this write has the number of one that fails, or if there is no room for any byte of
-    /// a piece that is not empty. Both are faults and are counted.
+    /// `Failed` if this write has the number of one that fails, or if there is no room for any byte
+    /// of a piece that is not empty. Both are faults and are counted.
     fn write(&mut self, piece: &[u8]) -> Result<usize, Failed>
         ensures faults_only_rise { self.old.counts.faults ≤ self.new.counts.faults }
         ensures within_piece { IfOk result (λ n. n ≤ length piece.now) }
         ensures takes_some { IfOk result (λ n. 0 < length piece.now → 0 < n) }
-        ensures piece_appended { WriteAppends (Some self.old.bytes) (Some self.new.bytes) result piece.now }
+        ensures piece_appended { WriteAppends (Some self.old.bytes) (Some self.new.bytes) result
+            piece.now }
         ensures err_has_cause { HasCause self.old.counts.faults self.new.counts.faults result }
         ensures fails_exactly { is_err result ≡ fails_write self.old piece.now }
         ensures count_exact { IfOk result (λ n. n ≡ write_count self.old piece.now) }

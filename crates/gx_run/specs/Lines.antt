@@ -6,7 +6,8 @@ use Rattle.csv.specs.declared.writer.Writer.{Writer}
 
 -- the writer has the defaults of `csv`, and is at the start of a line
 abbrev pub IsBetweenLines : Writer (Vec ℕ Global) → Type 0
-IsBetweenLines w = (writer_setup w ≡ default_writer) × (fields_written w ≡ 0) × (has_written w ≡ false)
+IsBetweenLines w =
+    (writer_setup w ≡ default_writer) × (fields_written w ≡ 0) × (has_written w ≡ false)
 
 -- what was written, with what is still in the writer's buffer
 abbrev pub text_so_far : Writer (Vec ℕ Global) → List ℕ

@@ -15,7 +15,8 @@ Produces args (Some contents) end = meaning args contents ≡ end
 
 -- the text that the run produces was written, whole
 abbrev pub Writes : List (List ℕ) → Option Contents → Option (List ℕ) → Option (List ℕ) → Type 0
-Writes args contents before after = (text : List ℕ) × Produces args contents (Ok text) × Appends before after text
+Writes args contents before after =
+    (text : List ℕ) × Produces args contents (Ok text) × Appends before after text
 
 -- a proper prefix of the text that the run produces was written
 abbrev pub WritesProperPrefix : List (List ℕ) → Option Contents → Option (List ℕ) → Option (List ℕ) → Type 0
@@ -35,7 +36,8 @@ IsScriptOrItsFile script (Some contents) name =
 
 -- the name is that of a file which a run with these arguments requests
 abbrev pub IsRequested : List (List ℕ) → Option Contents → List ℕ → Type 0
-IsRequested args contents name = IfSome (script_arg args) (λ script. IsScriptOrItsFile script contents name)
+IsRequested args contents name =
+    IfSome (script_arg args) (λ script. IsScriptOrItsFile script contents name)
 
 -- the status of a run that produces this: done, or its refusal
 abbrev pub status_of : Result (List ℕ) Status → Status

@@ -32,7 +32,8 @@ abbrev pub Reads : {A B : Type 0} → Option Contents → ℕ → ℕ → (A →
 Reads None before after view (Ok x) defined = ⊤
 Reads None before after view (Err s) defined = RefusesUnknown (FaultCounted before after) s
 Reads (Some contents) before after view (Ok x) defined = defined contents ≡ Ok (view x)
-Reads (Some contents) before after view (Err s) defined = Refuses (FaultCounted before after) s (defined contents)
+Reads (Some contents) before after view (Err s) defined =
+    Refuses (FaultCounted before after) s (defined contents)
 
 -- the name that a refusal carries has this property, if it carries one
 abbrev pub NamesOnly : Status → (List ℕ → Type 0) → Type 0

@@ -33,4 +33,5 @@ identifiers (entry ∷ entries) = insert_key vid_cmp (identifiers entries) entry
 
 -- the table of these entries: their identifiers, ascending, each with its first row
 unfoldable pub table : List Entry → List Entry
-table entries = filter_map (λ v. option_map (λ row. (v, row)) (first_row v entries)) (identifiers entries)
+table entries =
+    filter_map (λ v. option_map (λ row. (v, row)) (first_row v entries)) (identifiers entries)

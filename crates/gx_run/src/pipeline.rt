@@ -2,10 +2,10 @@
 //!
 //! To add a stage, define its result in `specs/Meaning.antt` and put it into `output_of` there with
 //! `>>=`, write the stage here with a clause `Reads` of that definition, and call it in `output_of`
-//! here with `?`; the clauses of `output_of` and `run` stay as they are. A stage that reads files also
-//! passes on that contents are kept and that faults only rise. A new refusal is a variant of `Status`,
-//! and a case of `code_of`, `Refuses`, `RefusesUnknown` and `NamesOnly`. Nothing here sees the
-//! arguments or a sink.
+//! here with `?`; the clauses of `output_of` and `run` stay as they are. A stage that reads files
+//! also passes on that contents are kept and that faults only rise. A new refusal is a variant of
+//! `Status`, and a case of `code_of`, `Refuses`, `RefusesUnknown` and `NamesOnly`. Nothing here
+//! sees the arguments or a sink.
 
 ghost use Rattle.std.specs.Prelude.{◌≡◌, ◌≤◌, ◌⊎◌, length, vec_len, All, IfOk, IfErr};
 ghost use Rattle.gx_load.specs.Loading.{column_name_of};
@@ -36,8 +36,10 @@ pub(crate) fn output_of<F: Files>(
 ) -> Result<Vec<u8>, Status>
     ensures contents_kept { F.contents files.new ≡ F.contents files.old }
     ensures faults_only_rise { F.faults files.old ≤ F.faults files.new }
-    ensures output { Reads (F.contents files.old) (F.faults files.old) (F.faults files.new) (λ text. text.items) result (output_of name.now) }
-    ensures source_is_requested { IfErr result (λ refusal. NamesOnly refusal (IsScriptOrItsFile name.now (F.contents files.old))) }
+    ensures output { Reads (F.contents files.old) (F.faults files.old) (F.faults files.new)
+        (λ text. text.items) result (output_of name.now) }
+    ensures source_is_requested { IfErr result
+        (λ refusal. NamesOnly refusal (IsScriptOrItsFile name.now (F.contents files.old))) }
 {
     let form = read_form(alloc, files, name)?;
     let rows = load_rows(alloc, files, &form)?;
@@ -48,7 +50,8 @@ pub(crate) fn output_of<F: Files>(
 fn read_form<F: Files>(alloc: Global, files: &mut F, name: &str) -> Result<Form, Status>
     ensures contents_kept { F.contents files.new ≡ F.contents files.old }
     ensures faults_only_rise { F.faults files.old ≤ F.faults files.new }
-    ensures script { Reads (F.contents files.old) (F.faults files.old) (F.faults files.new) (λ form. (form.file, form.columns)) result (script_under name.now) }
+    ensures script { Reads (F.contents files.old) (F.faults files.old) (F.faults files.new)
+        (λ form. (form.file, form.columns)) result (script_under name.now) }
     ensures source_is_requested { IfErr result (λ refusal. NamesOnly refusal (λ n. n ≡ name.now)) }
     ensures ints { IfOk result (λ form. All (λ c. c.1 ≡ ValueKind.Int) form.columns) }
     ensures few { IfOk result (λ form. length form.columns ≤ 16) }
@@ -72,8 +75,10 @@ fn load_rows<F: Files>(
     requires few { length form.now.columns ≤ 16 }
     ensures contents_kept { F.contents files.new ≡ F.contents files.old }
     ensures faults_only_rise { F.faults files.old ≤ F.faults files.new }
-    ensures rows { Reads (F.contents files.old) (F.faults files.old) (F.faults files.new) (λ rows. rows.items) result (rows_of_file form.now.file form.now.columns) }
-    ensures source_is_requested { IfErr result (λ refusal. NamesOnly refusal (λ n. n ≡ form.now.file)) }
+    ensures rows { Reads (F.contents files.old) (F.faults files.old) (F.faults files.new)
+        (λ rows. rows.items) result (rows_of_file form.now.file form.now.columns) }
+    ensures source_is_requested { IfErr result
+        (λ refusal. NamesOnly refusal (λ n. n ≡ form.now.file)) }
 {
     let kind = LimitKind::FileBytes;
     let bytes = fetch(alloc, files, form.file.as_str(), kind, kind.most() as u32)?;
@@ -89,7 +94,8 @@ fn table_text_of(
     columns: &RowType,
     rows: Vec<(Vid, Vid, Row)>,
 ) -> Result<Vec<u8>, NoMemory>
-    ensures { IfOk result (λ text. text.items ≡ table_text columns.now (table (entries_of rows.items))) }
+    ensures { IfOk result (λ text. text.items ≡ table_text columns.now
+        (table (entries_of rows.items))) }
 {
     let table = table_of(rows)?;
     text_of(alloc, columns, table.as_slice())
@@ -106,7 +112,8 @@ fn fetch<F: Files>(
     ensures contents_kept { F.contents files.new ≡ F.contents files.old }
     ensures faults_only_rise { F.faults files.old ≤ F.faults files.new }
     ensures within { IfOk result (λ bytes. vec_len bytes ≤ most) }
-    ensures bytes { Reads (F.contents files.old) (F.faults files.old) (F.faults files.new) (λ bytes. bytes.items) result (file_bytes kind most name.now) }
+    ensures bytes { Reads (F.contents files.old) (F.faults files.old) (F.faults files.new)
+        (λ bytes. bytes.items) result (file_bytes kind most name.now) }
     ensures source_is_requested { IfErr result (λ refusal. NamesOnly refusal (λ n. n ≡ name.now)) }
 {
     match read_all(alloc, files, name, most) {
@@ -129,7 +136,8 @@ fn source(alloc: Global, name: &str) -> Status
 
 // The refusal of a data file that is not loaded.
 fn refusal(alloc: Global, form: &Form, stop: LoadStop) -> Status
-    ensures { (result ≡ refusal_of form.now.file form.now.columns stop) ⊎ (result ≡ Status.NoMemory) }
+    ensures { (result ≡ refusal_of form.now.file form.now.columns stop)
+        ⊎ (result ≡ Status.NoMemory) }
 {
     match stop {
         LoadStop::Data(position) => match data_stop(alloc, form, position) {
@@ -143,7 +151,8 @@ fn refusal(alloc: Global, form: &Form, stop: LoadStop) -> Status
 
 // The refused position of the script's data file, with the names of the file and the column.
 fn data_stop(alloc: Global, form: &Form, position: RowStop) -> Result<DataStop, NoMemory>
-    ensures { IfOk result (λ d. (d.file ≡ form.now.file) × (d.column ≡ column_name_of 1 form.now.columns position) × (d.stop ≡ position)) }
+    ensures { IfOk result (λ d. (d.file ≡ form.now.file)
+        × (d.column ≡ column_name_of 1 form.now.columns position) × (d.stop ≡ position)) }
 {
     Ok(DataStop {
         file: Text::of(alloc, form.file.as_str())?,

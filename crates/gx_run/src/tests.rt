@@ -1,4 +1,5 @@
-//! Whole runs, over files and sinks in memory. Each row is run under each configuration of `support`.
+//! Whole runs, over files and sinks in memory. Each row is run under each configuration of
+//! `support`.
 
 mod support;
 
@@ -138,8 +139,8 @@ fn limits_are_at_their_numbers(rt: HostRuntime) -> Result<(), Fail> {
     Ok(())
 }
 
-// Stops the test unless a run ends with `end` whose script has so many spaces after it, and whose data
-// file has so many bytes more in its header or, if that is 0, so many rows.
+// Stops the test unless a run ends with `end` whose script has so many spaces after it, and whose
+// data file has so many bytes more in its header or, if that is 0, so many rows.
 fn assert_limit(
     rt: &impl Abort,
     alloc: Global,

@@ -41,7 +41,8 @@ fn write_header(
 ) -> Result<(), NoMemory>
     requires { IsBetweenLines writer.old }
     ensures between { OnOk result (IsBetweenLines writer.new) }
-    ensures text { OnOk result (text_so_far writer.new ≡ text_so_far writer.old ++ header_line columns.now) }
+    ensures text { OnOk result (text_so_far writer.new ≡ text_so_far writer.old
+        ++ header_line columns.now) }
 {
     put_header(fields, columns)?;
     write_line(writer, fields)
@@ -58,7 +59,8 @@ fn write_entry(
 ) -> Result<(), NoMemory>
     requires { IsBetweenLines writer.old }
     ensures between { OnOk result (IsBetweenLines writer.new) }
-    ensures text { OnOk result (text_so_far writer.new ≡ text_so_far writer.old ++ entry_line (id, row.now)) }
+    ensures text { OnOk result (text_so_far writer.new ≡ text_so_far writer.old
+        ++ entry_line (id, row.now)) }
 {
     put_entry(alloc, fields, id, row)?;
     write_line(writer, fields)
@@ -91,7 +93,8 @@ fn put_entry(alloc: Global, fields: &mut ByteRecord, id: Vid, row: &Row) -> Resu
 // Adds the text of a value to a record.
 fn push_value(alloc: Global, fields: &mut ByteRecord, value: &Value) -> Result<(), NoMemory>
     requires { partial_of fields.old ≡ [] }
-    ensures fields { OnOk result (fields_of fields.new ≡ fields_of fields.old ++ value_text value.now ∷ []) }
+    ensures fields { OnOk result (fields_of fields.new ≡ fields_of fields.old
+        ++ value_text value.now ∷ []) }
     ensures partial { OnOk result (partial_of fields.new ≡ []) }
 {
     match value {
@@ -117,7 +120,8 @@ fn ids_text_of(alloc: Global, ids: &[i64]) -> Result<Vec<u8>, NoMemory>
 
 // Appends these identifiers, each after a space.
 fn put_others(text: &mut Vec<u8>, ids: &[i64]) -> Result<(), NoMemory>
-    ensures { OnOk result (text.new.items ≡ text.old.items ++ flat_map (λ n. 32 ∷ signed_decimal n) ids.now) }
+    ensures { OnOk result (text.new.items ≡ text.old.items ++ flat_map (λ n. 32 ∷ signed_decimal n)
+        ids.now) }
 {
     for id in ids {
         text.push(b' ')?;
@@ -148,7 +152,8 @@ fn push_bytes(fields: &mut ByteRecord, bytes: &[u8]) -> Result<(), NoMemory>
 // Adds the decimal text of a number to a record.
 fn push_int(fields: &mut ByteRecord, number: i64) -> Result<(), NoMemory>
     requires { partial_of fields.old ≡ [] }
-    ensures fields { OnOk result (fields_of fields.new ≡ fields_of fields.old ++ signed_decimal number ∷ []) }
+    ensures fields { OnOk result (fields_of fields.new ≡ fields_of fields.old
+        ++ signed_decimal number ∷ []) }
     ensures partial { OnOk result (partial_of fields.new ≡ []) }
 {
     let mut buffer = Buffer::new();
@@ -160,7 +165,8 @@ fn push_int(fields: &mut ByteRecord, number: i64) -> Result<(), NoMemory>
 fn write_line(writer: &mut Writer<Vec<u8>>, fields: &ByteRecord) -> Result<(), NoMemory>
     requires { IsBetweenLines writer.old }
     ensures between { OnOk result (IsBetweenLines writer.new) }
-    ensures text { OnOk result (text_so_far writer.new ≡ text_so_far writer.old ++ row_text default_writer (fields_of fields.now)) }
+    ensures text { OnOk result (text_so_far writer.new ≡ text_so_far writer.old
+        ++ row_text default_writer (fields_of fields.now)) }
 {
     writer.write_byte_record(fields).map_err(|_| NoMemory)
 }

@@ -1,5 +1,5 @@
-//! The top call: the arguments to a script's name, and the script's output to a sink. It sees files and
-//! sinks only through their traits.
+//! The top call: the arguments to a script's name, and the script's output to a sink. It sees files
+//! and sinks only through their traits.
 
 ghost use Rattle.std.specs.Prelude.{◌≡◌, ◌≢◌, ◌≤◌, ◌⊎◌, ◌↔◌, List, ℕ, None, Some, IsSome, option_map};
 ghost use Rattle.gx_outside.specs.Contents.{Contents};
@@ -16,8 +16,8 @@ use std::alloc::Global;
 /// Runs `gx` with these arguments, the ones after the program's name: reads the script and its data
 /// from `files`, and writes the script's output to `out`. Nothing is written to `err` yet.
 ///
-/// The status says how the run ended. Only `Done` and `Sink` leave anything written: the whole output,
-/// or a proper prefix of it. Out of memory may come in place of any status but `Usage`.
+/// The status says how the run ended. Only `Done` and `Sink` leave anything written: the whole
+/// output, or a proper prefix of it. Out of memory may come in place of any status but `Usage`.
 pub fn run<F: Files, O: Sink, E: Sink>(
     alloc: Global,
     args: &[String],
@@ -26,23 +26,37 @@ pub fn run<F: Files, O: Sink, E: Sink>(
     err: &mut E,
 ) -> Status
     // Done: the script's output was written, whole.
-    ensures output_if_done { result ≡ Status.Done → Writes (args_of args.now) (F.contents files.old) (O.written out.old) (O.written out.new) }
+    ensures output_if_done { result ≡ Status.Done →
+        Writes (args_of args.now) (F.contents files.old) (O.written out.old) (O.written out.new) }
 
     // Each refusal has its cause, and the first one is returned.
     ensures usage_exactly { (result ≡ Status.Usage) ↔ (script_arg (args_of args.now) ≡ None) }
-    ensures script_stop_has_cause { (stop : _) → result ≡ Status.Script stop → Produces (args_of args.now) (F.contents files.old) (Err (Status.Script stop)) }
-    ensures data_stop_has_cause { (stop : _) → result ≡ Status.Data stop → Produces (args_of args.now) (F.contents files.old) (Err (Status.Data stop)) }
-    ensures limit_has_cause { (kind : _) → result ≡ Status.Limit kind → Produces (args_of args.now) (F.contents files.old) (Err (Status.Limit kind)) }
-    ensures source_has_cause { (name : List ℕ) → result ≡ Status.Source name → FaultCounted (F.faults files.old) (F.faults files.new) ⊎ IsMissing (args_of args.now) (F.contents files.old) name }
-    ensures source_is_requested { (name : List ℕ) → result ≡ Status.Source name → IsRequested (args_of args.now) (F.contents files.old) name }
-    ensures sink_has_cause { result ≡ Status.Sink → FaultCounted (O.faults out.old) (O.faults out.new) × WritesProperPrefix (args_of args.now) (F.contents files.old) (O.written out.old) (O.written out.new) }
+    ensures script_stop_has_cause { (stop : _) → result ≡ Status.Script stop →
+        Produces (args_of args.now) (F.contents files.old) (Err (Status.Script stop)) }
+    ensures data_stop_has_cause { (stop : _) → result ≡ Status.Data stop →
+        Produces (args_of args.now) (F.contents files.old) (Err (Status.Data stop)) }
+    ensures limit_has_cause { (kind : _) → result ≡ Status.Limit kind →
+        Produces (args_of args.now) (F.contents files.old) (Err (Status.Limit kind)) }
+    ensures source_has_cause { (name : List ℕ) → result ≡ Status.Source name →
+        FaultCounted (F.faults files.old) (F.faults files.new)
+        ⊎ IsMissing (args_of args.now) (F.contents files.old) name }
+    ensures source_is_requested { (name : List ℕ) → result ≡ Status.Source name →
+        IsRequested (args_of args.now) (F.contents files.old) name }
+    ensures sink_has_cause { result ≡ Status.Sink →
+        FaultCounted (O.faults out.old) (O.faults out.new)
+        × WritesProperPrefix (args_of args.now) (F.contents files.old) (O.written out.old)
+        (O.written out.new) }
 
     // If no device failed, the status is that of the meaning, or out of memory.
-    ensures complete { (contents : Contents) → F.contents files.old ≡ Some contents → ¬ FaultCounted (F.faults files.old) (F.faults files.new) → ¬ FaultCounted (O.faults out.old) (O.faults out.new)
-        → (result ≡ status_of (meaning (args_of args.now) contents)) ⊎ (result ≡ Status.NoMemory) }
+    ensures complete { (contents : Contents) → F.contents files.old ≡ Some contents
+        → ¬ FaultCounted (F.faults files.old) (F.faults files.new)
+        → ¬ FaultCounted (O.faults out.old) (O.faults out.new)
+        → (result ≡ status_of (meaning (args_of args.now) contents))
+        ⊎ (result ≡ Status.NoMemory) }
 
     // What stays as it was.
-    ensures out_kept_if_refused { result ≢ Status.Done → result ≢ Status.Sink → O.written out.new ≡ O.written out.old }
+    ensures out_kept_if_refused { result ≢ Status.Done → result ≢ Status.Sink →
+        O.written out.new ≡ O.written out.old }
     ensures err_kept { E.written err.new ≡ E.written err.old }
     ensures contents_kept { F.contents files.new ≡ F.contents files.old }
     ensures out_stays_known { IsSome (O.written out.new) ↔ IsSome (O.written out.old) }

@@ -14,7 +14,8 @@ fn add_column(
     columns: &mut Vec<(Text, ValueKind)>,
     name: &str,
 ) -> Result<(), NoMemory>
-    ensures { OnOk result (columns.new.items ≡ columns.old.items ++ (name.now, ValueKind.Int) ∷ []) }
+    ensures { OnOk result (columns.new.items ≡ columns.old.items ++ (name.now, ValueKind.Int) ∷
+        []) }
 {
     let name = Text::of(alloc, name)?;
     columns.push((name, ValueKind::Int))?;

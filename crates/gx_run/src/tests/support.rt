@@ -28,7 +28,8 @@ pub(super) struct Config {
     pub(super) workers: u32,
 }
 
-/// The configurations that each row is run under. There is one, since no option chooses another yet.
+/// The configurations that each row is run under. There is one, since no option chooses another
+/// yet.
 pub(super) const CONFIGS: [Config; 1] = [Config {
     cut: Cut::Rows,
     partitions: 1,
