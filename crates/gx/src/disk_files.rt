@@ -1,15 +1,14 @@
-//! Real files.
+//! The trait `Files` over the files of the operating system.
 
 ghost use Rattle.std.specs.Prelude.{◌≡◌, ◌≤◌, None, is_some};
-ghost use Rattle.std.proofs.Common.{rules};
-ghost use Rattle.gx_outside.specs.Faults.{Rose};
+ghost use Rattle.gx_outside.specs.Faults.{FaultCounted};
 
 use gx_outside::{Failed, Files};
 use std::io::Read;
 use std::{fs, rt};
 
-/// The files that the operating system has, by their paths. It tells nothing of what they hold, and
-/// counts its faults, an absent file among them.
+/// The files that the operating system has, by their paths. Their contents are unknown to
+/// contracts. Faults are counted, and an absent file is one.
 #[derive(Drop)]
 pub(crate) struct DiskFiles<'a, R: rt::Files>
 where
@@ -26,8 +25,8 @@ where
 {
     /// All files of the system, none open.
     pub(crate) fn new(rt: &'a R) -> Self
-        ensures closed { result.open_file ≡ None }
-        ensures unfailed { result.faults ≡ 0 }
+        ensures starts_closed { result.open_file ≡ None }
+        ensures no_faults_yet { result.faults ≡ 0 }
     {
         DiskFiles {
             rt,
@@ -38,9 +37,9 @@ where
 
     // Counts a fault.
     fn fault(&mut self) -> Failed
-        ensures counted { Rose self.old.faults self.new.faults }
-        ensures later { self.old.faults ≤ self.new.faults }
-        ensures kept { self.new.open_file ≡ self.old.open_file }
+        ensures fault_counted { FaultCounted self.old.faults self.new.faults }
+        ensures faults_only_rise { self.old.faults ≤ self.new.faults }
+        ensures file_kept { self.new.open_file ≡ self.old.open_file }
     {
         self.faults = self.faults.saturating_add(1);
         Failed
@@ -51,15 +50,15 @@ impl<R: rt::Files> Files for DiskFiles<'_, R>
 where
     R::File: Drop,
 {
-    ghost held = { λ _. None };
+    ghost contents = { λ _. None };
 
-    ghost left = { λ _. None };
+    ghost rest = { λ _. None };
 
     ghost is_open = { λ s. is_some s.open_file };
 
     ghost faults = { λ s. s.faults };
 
-    ghost tells_rest = { Prim.search rules };
+    ghost knows_rest = { λ s known opened. known };
 
     fn open(&mut self, name: &str) -> Result<(), Failed> {
         self.open_file = None;

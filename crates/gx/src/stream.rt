@@ -1,12 +1,12 @@
-//! Real streams.
+//! The trait `Sink` over the streams of the process.
 
 ghost use Rattle.std.specs.Prelude.{◌≡◌, None};
 
 use gx_outside::{Failed, Sink};
 use std::io::Write;
 
-/// A stream of the process, as its standard output. It tells nothing of what was written, and counts
-/// its faults, a write that takes nothing among them.
+/// A stream of the process, as its standard output. What was written is unknown to contracts.
+/// Faults are counted, and a write that takes nothing of a piece that is not empty is one.
 #[derive(Drop)]
 pub(crate) struct Stream<W: Write + Drop> {
     writer: W,

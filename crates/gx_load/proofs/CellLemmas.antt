@@ -1,4 +1,4 @@
--- The whole number that a text writes: what `parse` says of it, and that only text writes one.
+-- The whole number that a text spells: `parse` finds it, and only UTF-8 spells one.
 use Rattle.std.proofs.Common.{◌≡◌, ◌∷◌, [], ◌<◌, ℕ, ℤ, Bool, List, None, Some, Result, Ok, Err, true, false, refl, sym, arith, zero, suc, get_or, inl, inr}
 use Rattle.std.proofs.lemmas.Bool.{ltb-true, lt-ltb}
 use Rattle.std.proofs.lemmas.Bool.Decides.{eqb_tells}
@@ -11,7 +11,7 @@ use Rattle.std.specs.Result.{result_ok}
 use Rattle.std.specs.Str.{IsAscii, all_ascii_digits}
 use Rattle.std.specs.Str.Parse.{AllDigits, IsNumeral, ParsesSigned, digits_value, signed_digits_value, without_leading_sign}
 use Rattle.csv.specs.Records.{field_at}
-use Rattle.gx_load.specs.Cells.{cut, fits_64_bits, int_of, is_numeral, number_of}
+use Rattle.gx_load.specs.Cells.{trim, fits_64_bits, int_of, is_numeral, number_of}
 
 -- the test of the definition and that of `parse`
 digits : IsNumeralModel (λ ds. all_ascii_digits ds ≡ true) (digits_value 10)
@@ -33,7 +33,7 @@ fits_back : (z : ℤ) → FitsSigned w64 z → fits_64_bits z ≡ true
 fits_back (pos n) h = lt-ltb _ _ h.sfits
 fits_back (negsuc n) h = lt-ltb _ _ h.sfits
 
--- a number is written only where both tests pass
+-- a number is spelled only if both tests pass
 chosen : (a b : Bool) (z : ℤ) → (a ≡ true → b ≡ true → ⊥) → (if a && b then Some z else None) ≡ None
 chosen true true z h = absurd (h refl refl)
 chosen true false z h = refl
@@ -45,7 +45,7 @@ no_number text h =
     chosen (is_numeral (without_leading_sign text)) (fits_64_bits (signed_digits_value 10 text)) (signed_digits_value 10 text)
     (λ a b. h (numeral (without_leading_sign text) a, fits (signed_digits_value 10 text) b))
 
--- what `parse` reads as an `i64` is what the text writes
+-- `parse` as an `i64` returns what the text spells
 pub number_of-parsed : {E : Type 0} (text : List ℕ) (r : Result ℤ E) → ParsesSigned w64 10 text r → result_ok r ≡ number_of text
 unfolding number_of
 number_of-parsed text (Ok z) h = rw (numeral_back _ h.0.0, fits_back _ h.0.1, h.1) refl
@@ -70,18 +70,18 @@ sign_then_digits c cs h =
       ]
     ]
 
--- a text that writes a number is UTF-8
+-- a text that spells a number is UTF-8
 IsUtf8-numeral : (text : List ℕ) → IsNumeral 10 (without_leading_sign text) → IsUtf8 text
 IsUtf8-numeral [] h = absurd (omega (arith, h.0))
 IsUtf8-numeral (c ∷ cs) h = IsUtf8-from_ascii (c ∷ cs) (sign_then_digits c cs h.1)
 
--- what is not text writes no number
+-- bytes that are not UTF-8 spell no number
 pub number_of-not_utf8 : (text : List ℕ) → ¬ (IsUtf8 text) → number_of text ≡ None
 number_of-not_utf8 text h = no_number text (λ n. h (IsUtf8-numeral text n.0))
 
--- a place without a field has no number
-pub int_of-no_field : (fields : List (List ℕ)) (place : ℕ) → field_at fields place ≡ None → int_of (get_or fields place []) ≡ None
-unfolding int_of number_of cut field_at
-int_of-no_field [] place e = refl
+-- a position without a field has no number
+pub int_of-no_field : (fields : List (List ℕ)) (position : ℕ) → field_at fields position ≡ None → int_of (get_or fields position []) ≡ None
+unfolding int_of number_of trim field_at
+int_of-no_field [] position e = refl
 int_of-no_field (f ∷ fs) zero e = cc e
 int_of-no_field (f ∷ fs) (suc i) e = int_of-no_field fs i e

@@ -6,19 +6,19 @@ use Rattle.std.specs.List.{position_from}
 use Rattle.std.specs.Str.{bytes_eq}
 use Rattle.csv.specs.Records.{field_at}
 use Rattle.gx_rows.specs.Columns.{Column, names_of}
-use Rattle.gx_rows.specs.Steps.{one_more}
-use Rattle.gx_load.specs.Cells.{cut}
-use Rattle.gx_load.specs.Loading.{key_names, place_at, places_from}
+use Rattle.gx_rows.specs.Results.{try_cons}
+use Rattle.gx_load.specs.Cells.{trim}
+use Rattle.gx_load.specs.Loading.{key_names, column_position, positions_from}
 
--- the first place of a name among the fields from this one on
-abbrev pub place_from : ℕ → List ℕ → List (List ℕ) → Option ℕ
-place_from place name header = position_from (λ n. bytes_eq n name) place (map cut (drop place header))
+-- the first position of a name among the fields from this one on
+abbrev pub position_after : ℕ → List ℕ → List (List ℕ) → Option ℕ
+position_after position name header = position_from (λ n. bytes_eq n name) position (map trim (drop position header))
 
--- the field that is at a place comes first of those from there on
-drop-field : (fields : List (List ℕ)) (place : ℕ) (field : List ℕ)
-    → field_at fields place ≡ Some field → drop place fields ≡ field ∷ drop (suc place) fields
+-- the field that is at a position comes first of those from there on
+drop-field : (fields : List (List ℕ)) (position : ℕ) (field : List ℕ)
+    → field_at fields position ≡ Some field → drop position fields ≡ field ∷ drop (suc position) fields
 unfolding field_at
-drop-field [] place field e = cc e
+drop-field [] position field e = cc e
 drop-field (f ∷ fs) zero field e = cc e
 drop-field (f ∷ fs) (suc i) field e = drop-field fs i field e
 
@@ -29,41 +29,41 @@ drop-entry (y ∷ ys) zero x e = cc e
 drop-entry (y ∷ ys) (suc i) x e = drop-entry ys i x e
 
 -- past the last field there is none
-drop-no_field : (fields : List (List ℕ)) (place : ℕ) → field_at fields place ≡ None → drop place fields ≡ []
+drop-no_field : (fields : List (List ℕ)) (position : ℕ) → field_at fields position ≡ None → drop position fields ≡ []
 unfolding field_at
-drop-no_field [] place e = drop-nil place
+drop-no_field [] position e = drop-nil position
 drop-no_field (f ∷ fs) zero e = cc e
 drop-no_field (f ∷ fs) (suc i) e = drop-no_field fs i e
 
 -- a field of another name is passed over
-pub place_from-other : (name : List ℕ) (header : List (List ℕ)) (place : ℕ) (field : List ℕ)
-    → field_at header place ≡ Some field → bytes_eq (cut field) name ≡ false
-    → place_from place name header ≡ place_from (place + 1) name header
-place_from-other name header place field e other = rw (drop-field header place field e, other, add-one) refl
+pub position_after-other : (name : List ℕ) (header : List (List ℕ)) (position : ℕ) (field : List ℕ)
+    → field_at header position ≡ Some field → bytes_eq (trim field) name ≡ false
+    → position_after position name header ≡ position_after (position + 1) name header
+position_after-other name header position field e other = rw (drop-field header position field e, other, add-one) refl
 
--- a field of the name is its first place
-pub place_from-same : (name : List ℕ) (header : List (List ℕ)) (place : ℕ) (field : List ℕ)
-    → field_at header place ≡ Some field → bytes_eq (cut field) name ≡ true
-    → place_from place name header ≡ Some place
-place_from-same name header place field e same = rw (drop-field header place field e, same) refl
+-- a field of the name is its first position
+pub position_after-same : (name : List ℕ) (header : List (List ℕ)) (position : ℕ) (field : List ℕ)
+    → field_at header position ≡ Some field → bytes_eq (trim field) name ≡ true
+    → position_after position name header ≡ Some position
+position_after-same name header position field e same = rw (drop-field header position field e, same) refl
 
--- past the last field the name has no place
-pub place_from-none : (name : List ℕ) (header : List (List ℕ)) (place : ℕ)
-    → field_at header place ≡ None → place_from place name header ≡ None
-place_from-none name header place e = rw (drop-no_field header place e) refl
+-- past the last field the name has no position
+pub position_after-none : (name : List ℕ) (header : List (List ℕ)) (position : ℕ)
+    → field_at header position ≡ None → position_after position name header ≡ None
+position_after-none name header position e = rw (drop-no_field header position e) refl
 
--- the places from a column on
-pub places_from-step : (column : ℕ) (names : List (List ℕ)) (name : List ℕ) (header : List (List ℕ))
+-- the positions from a column on
+pub positions_from-step : (column : ℕ) (names : List (List ℕ)) (name : List ℕ) (header : List (List ℕ))
     → slice_get names column ≡ Some name
-    → places_from column (drop column names) header ≡ one_more (place_at column name header) (places_from (column + 1) (drop (column + 1) names) header)
-unfolding places_from
-places_from-step column names name header e = rw (drop-entry names column name e, add-one) refl
+    → positions_from column (drop column names) header ≡ try_cons (column_position column name header) (positions_from (column + 1) (drop (column + 1) names) header)
+unfolding positions_from
+positions_from-step column names name header e = rw (drop-entry names column name e, add-one) refl
 
--- past the last column no place is left
-pub places_from-done : (column : ℕ) (names : List (List ℕ)) (header : List (List ℕ))
-    → length names ≤ column → places_from column (drop column names) header ≡ Ok []
-unfolding places_from
-places_from-done column names header past = rw (drop_all column names past) refl
+-- past the last column no position is rest
+pub positions_from-done : (column : ℕ) (names : List (List ℕ)) (header : List (List ℕ))
+    → length names ≤ column → positions_from column (drop column names) header ≡ Ok []
+unfolding positions_from
+positions_from-done column names header past = rw (drop_all column names past) refl
 
 -- how many names there are
 pub length-column_names : (keys : ℕ) (columns : List Column) → (keys ≡ 1) ⊎ (keys ≡ 2) → length (key_names keys ++ names_of columns) ≡ keys + length columns

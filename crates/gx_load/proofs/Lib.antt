@@ -3,5 +3,5 @@ pub mod FileLemmas
 pub mod GivesLemmas
 pub mod HeaderLemmas
 pub mod Machine
+pub mod NextRecord
 pub mod RowLemmas
-pub mod Taken

@@ -1,5 +1,5 @@
 -- The machine of `csv` ends each record between two, and takes at least one byte for it. So the
--- number of turns that `records` is given is enough, and any larger one gives the same records.
+-- number of turns that `records` takes is enough, and any larger one returns the same records.
 use Rattle.std.proofs.Common.{◌≡◌, ◌⊎◌, ◌<◌, ◌≤◌, ℕ, zero, suc, Bool, true, false, if◌then◌else◌, ◌==◌, ◌&&◌, List, [], ◌∷◌, ◌++◌, length, Option, Some, None, refl, ap, inl, inr, arith}
 use Rattle.std.proofs.lemmas.Bool.{false≢true}
 use Rattle.csv.specs.Machine.{Read, after_end, carriage_return, ends_at_end, ends_with, field_after, fields_after, in_field, is_byte, is_end, next_record, start_field, start_record, step}
@@ -102,7 +102,7 @@ same_next : (cfg : Config) (n m : ℕ) (o : Option Read)
 same_next cfg n m None same = refl
 same_next cfg n m (Some p) same = ap (λ rest. p.0 ∷ rest) (same p refl)
 
--- any number of turns above the number of bytes gives the same records
+-- any number of turns above the number of bytes returns the same records
 pub records_from-enough : (cfg : Config) (n m : ℕ) (s : State) (xs : List ℕ)
     → ends_at_end s ≡ false → length xs < n → length xs < m → records_from cfg n s xs ≡ records_from cfg m s xs
 unfolding records_from

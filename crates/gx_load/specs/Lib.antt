@@ -1,5 +1,5 @@
-pub mod Answers
 pub mod Cells
-pub mod Left
+pub mod FileBytes
+pub mod LoadResults
 pub mod Loading
-pub mod Whole
+pub mod Remaining

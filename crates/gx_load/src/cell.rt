@@ -1,13 +1,13 @@
-//! Cells of a data file: which bytes count, and the whole number that they write.
+//! Cells of a data file: which bytes of a cell count, and the whole number that they spell.
 
 ghost use Rattle.std.specs.Prelude.{◌≡◌};
-ghost use Rattle.gx_load.specs.Cells.{cut, cut_end, cut_start, int_of, number_of};
+ghost use Rattle.gx_load.specs.Cells.{trim, trim_end, trim_start, int_of, number_of};
 
 use std::str;
 
 // The text after the spaces and tabs at its start.
-fn cut_start(text: &[u8]) -> &[u8]
-    ensures { result.now ≡ cut_start text.now }
+fn trim_start(text: &[u8]) -> &[u8]
+    ensures { result.now ≡ trim_start text.now }
 {
     let mut rest = text;
     while let [b' ' | b'\t', others @ ..] = rest {
@@ -17,8 +17,8 @@ fn cut_start(text: &[u8]) -> &[u8]
 }
 
 // The text before the spaces and tabs at its end.
-fn cut_end(text: &[u8]) -> &[u8]
-    ensures { result.now ≡ cut_end text.now }
+fn trim_end(text: &[u8]) -> &[u8]
+    ensures { result.now ≡ trim_end text.now }
 {
     let mut rest = text;
     while let [others @ .., b' ' | b'\t'] = rest {
@@ -28,14 +28,14 @@ fn cut_end(text: &[u8]) -> &[u8]
 }
 
 /// The text between the spaces and tabs at its ends.
-#[tactic(auto, unfolding(crate::specs::Cells::cut))]
-pub(crate) fn cut(text: &[u8]) -> &[u8]
-    ensures { result.now ≡ cut text.now }
+#[tactic(auto, unfolding(crate::specs::Cells::trim))]
+pub(crate) fn trim(text: &[u8]) -> &[u8]
+    ensures { result.now ≡ trim text.now }
 {
-    cut_end(cut_start(text))
+    trim_end(trim_start(text))
 }
 
-// The whole number that a text writes, if it writes one.
+// The whole number that a text spells, if it spells one.
 #[tactic(auto, using(crate::proofs::CellLemmas::parsing))]
 fn number_of(text: &str) -> Option<i64>
     ensures { result ≡ number_of text.now }
@@ -43,11 +43,11 @@ fn number_of(text: &str) -> Option<i64>
     text.parse::<i64>().ok()
 }
 
-/// The whole number that a cell stands for, if it stands for one.
+/// The whole number in a cell, if there is one.
 pub(crate) fn int_of(cell: &[u8]) -> Option<i64>
     ensures { result ≡ int_of cell.now }
 {
-    match str::from_utf8(cut(cell)) {
+    match str::from_utf8(trim(cell)) {
         Ok(text) => number_of(text),
         Err(_) => None,
     }

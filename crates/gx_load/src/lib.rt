@@ -1,9 +1,11 @@
 //! Files to rows.
 //!
-//! `read_all` takes a whole file from a source of files, up to a limit. `rows_of` turns the bytes of a
-//! CSV file into rows of a row type, or answers the first place that it refuses. Which records a
-//! text has is what the crate `csv` defines; what a header and a cell must be is defined in `specs/`.
-//! The crate stands on `gx_rows`, `gx_outside`, `csv` and `thiserror`; the top call loads by it.
+//! `read_all` reads a whole file from a source of files, up to a limit. `rows_of` turns the bytes
+//! of a CSV file into rows of a row type, or returns the first position that it refuses. Which
+//! records a text has is defined by the crate `csv`; what a header and a cell must be is defined in
+//! `specs/`. Contracts speak of bytes and of lists of rows. The crate depends on `gx_rows`,
+//! `gx_outside`, `csv` and `thiserror`, and the top call loads through it. It never sees a script,
+//! nor which of several rows of one identifier counts.
 #![tactic(auto)]
 
 mod cell;

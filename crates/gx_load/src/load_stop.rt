@@ -1,10 +1,12 @@
-//! Where loading stops.
+//! Why loading stops, and at which row and column.
 
-ghost use Rattle.std.specs.Prelude.{◌≡◌};
+ghost use Rattle.std.specs.Prelude.{◌≡◌, ◌⊎◌, ◌++◌, option_map, slice_get};
+ghost use Rattle.gx_rows.specs.Columns.{names_of};
+ghost use Rattle.gx_load.specs.Loading.{column_name_of, key_names};
 ghost use Rattle.gx_load.specs.declared.load_stop.LoadStop.TheVariants as load_stop;
 
-use gx_rows::NoMemory;
-use std::alloc::{AllocError, AllocFailed};
+use crate::header::column_name;
+use gx_rows::{NoMemory, RowType};
 
 /// What a cell was refused as.
 #[derive(Clone, Copy, Debug, PartialEq, Eq)]
@@ -23,7 +25,7 @@ pub enum CellKind {
     ListTooLong,
 }
 
-/// A refused place of a data file. Rows count from 1 and do not count the header; columns count
+/// A refused position of a data file. Rows count from 1 and do not count the header; columns count
 /// from 0, the key columns first and then the declared ones in their order.
 #[derive(Clone, Copy, Debug, PartialEq, Eq)]
 pub enum RowStop {
@@ -31,7 +33,7 @@ pub enum RowStop {
     Header(u32),
     /// This row has another number of fields than the header.
     Shape(u32),
-    /// This cell is none of its column's kind.
+    /// This cell has no value of its column's kind.
     Cell {
         /// The cell's row.
         row: u32,
@@ -40,14 +42,14 @@ pub enum RowStop {
         /// What it was refused as.
         kind: CellKind,
     },
-    /// This line of an edge list, counted from 1, is no edge.
+    /// This line of an edge list, counted from 1, is not an edge.
     Line(u32),
 }
 
-/// Why a data file was not loaded.
+/// Why a data file was not rows_of_csv.
 #[derive(Clone, Copy, Debug, PartialEq, Eq)]
 pub enum LoadStop {
-    /// The first refused place.
+    /// The first refused position.
     Data(RowStop),
     /// The file has more than 500,000 rows, and none of the first 500,000 is refused.
     TooManyRows,
@@ -55,26 +57,38 @@ pub enum LoadStop {
     NoMemory,
 }
 
+impl RowStop {
+    /// The name of the column of a refused position, the key columns first; `None` if the position
+    /// is no column's, or the file has no such column. It allocates nothing.
+    pub fn column_name(self, keys: u32, columns: &RowType) -> Option<&str>
+        requires { (keys ≡ 1) ⊎ (keys ≡ 2) }
+        ensures { option_map (λ name. name.now) result ≡ column_name_of keys columns.now self }
+    {
+        match self {
+            RowStop::Header(column) => name_if_any(keys, columns, column),
+            RowStop::Cell { column, .. } => name_if_any(keys, columns, column),
+            RowStop::Shape(_) | RowStop::Line(_) => None,
+        }
+    }
+}
+
+// The name of a column, if the file has so many.
+fn name_if_any(keys: u32, columns: &RowType, column: u32) -> Option<&str>
+    requires { (keys ≡ 1) ⊎ (keys ≡ 2) }
+    ensures { option_map (λ name. name.now) result ≡ slice_get
+        (key_names keys ++ names_of columns.now) column }
+{
+    if column < keys || column - keys < columns.len() {
+        Some(column_name(keys, columns, column))
+    } else {
+        None
+    }
+}
+
 impl From<NoMemory> for LoadStop {
     ghost from_gives = { λ _ stop. stop ≡ load_stop.NoMemory };
 
     fn from(_error: NoMemory) -> LoadStop {
-        LoadStop::NoMemory
-    }
-}
-
-impl From<AllocError> for LoadStop {
-    ghost from_gives = { λ _ stop. stop ≡ load_stop.NoMemory };
-
-    fn from(_error: AllocError) -> LoadStop {
-        LoadStop::NoMemory
-    }
-}
-
-impl<T: Drop> From<AllocFailed<T>> for LoadStop {
-    ghost from_gives = { λ _ stop. stop ≡ load_stop.NoMemory };
-
-    fn from(_error: AllocFailed<T>) -> LoadStop {
         LoadStop::NoMemory
     }
 }

@@ -1,9 +1,10 @@
-//! Why a file was not read.
+//! Why a file is not read whole.
 
 ghost use Rattle.std.specs.Prelude.{◌≡◌};
+ghost use Rattle.gx_load.specs.declared.read_stop.ReadStop.TheVariants as read_stop;
 
 use gx_outside::Failed;
-use std::alloc::AllocError;
+use gx_rows::NoMemory;
 use thiserror::Error;
 
 /// Why a file was not read whole.
@@ -21,8 +22,6 @@ pub enum ReadStop {
 }
 
 impl From<Failed> for ReadStop {
-    ghost use Rattle.gx_load.specs.declared.read_stop.ReadStop.TheVariants as read_stop;
-
     ghost from_gives = { λ _ stop. stop ≡ read_stop.Failed };
 
     fn from(_failed: Failed) -> ReadStop {
@@ -30,12 +29,10 @@ impl From<Failed> for ReadStop {
     }
 }
 
-impl From<AllocError> for ReadStop {
-    ghost use Rattle.gx_load.specs.declared.read_stop.ReadStop.TheVariants as read_stop;
-
+impl From<NoMemory> for ReadStop {
     ghost from_gives = { λ _ stop. stop ≡ read_stop.NoMemory };
 
-    fn from(_error: AllocError) -> ReadStop {
+    fn from(_error: NoMemory) -> ReadStop {
         ReadStop::NoMemory
     }
 }

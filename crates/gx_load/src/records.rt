@@ -1,7 +1,7 @@
 //! The records of a CSV text, taken one by one.
 //!
 //! A reader of `csv` is wrapped here once, so that a loop over records is proved over the list of
-//! those that are left. The header is a record as any other, and records may differ in length.
+//! the remaining ones. The header is a record as any other, and records may differ in length.
 
 ghost use Rattle.std.specs.Prelude.{◌≡◌, ◌∷◌, [], IfOk, MatchBool};
 ghost use Rattle.csv.specs.Reading.{default_config, records, strip_bom};
@@ -12,29 +12,29 @@ use gx_rows::NoMemory;
 use std::alloc::Global;
 use std::marker::Model;
 
-/// The records of a text that are still to be taken. Contracts see them as a list, each record as
-/// the list of its fields' bytes.
+/// The records of a text that are still to be taken. Contracts see a list of records, each of them
+/// as the list of its fields' bytes.
 #[derive(Drop)]
 pub(crate) struct Records<'a> {
     reader: Reader<&'a [u8]>,
-    // `csv` answers 'no record' at the end of the text and after a failure alike, and says nothing of
-    // a reader that met either, so it is not asked again.
-    goes: bool,
+    // `csv` returns 'no record' at the end of the text and after a failure alike, and says nothing
+    // of a reader that met either, so it is not called again.
+    live: bool,
 }
 
 impl<'a> Model for Records<'a> {
     ghost use Rattle.std.specs.Prelude.{◌≡◌, true, List, ℕ};
-    ghost use Rattle.gx_load.specs.Left.{IsPlain, records_left};
+    ghost use Rattle.gx_load.specs.Remaining.{IsPlain, remaining_records};
 
     ghost Value = { List (List (List ℕ)) };
 
-    ghost view = { λ r. records_left r.goes r.reader };
+    ghost view = { λ r. remaining_records r.live r.reader };
 
-    ghost invariant = { λ r. r.goes ≡ true → IsPlain r.reader };
+    ghost invariant = { λ r. r.live ≡ true → IsPlain r.reader };
 }
 
 impl<'a> Records<'a> {
-    /// The records of a text, of which a byte order mark at its start is no part.
+    /// The records of a text, after the byte order mark if the text begins with one.
     pub(crate) fn of(alloc: Global, bytes: &'a [u8]) -> Records<'a>
         ensures { result ≡ records default_config (strip_bom bytes.now) }
     {
@@ -43,27 +43,28 @@ impl<'a> Records<'a> {
                 .has_headers(false)
                 .flexible(true)
                 .from_reader(alloc, bytes),
-            goes: true,
+            live: true,
         }
     }
 
-    /// Moves the next record into `row` and says whether there was one.
+    /// Moves the next record into `row` and returns whether there was one.
     ///
     /// # Errors
     ///
-    /// `NoMemory` where there is no room for the record. Then no further record is given.
+    /// `NoMemory` if there is no room for the record. No further record is returned then.
     pub(crate) fn take(&mut self, row: &mut ByteRecord) -> Result<bool, NoMemory>
-        ensures { IfOk result (λ found. MatchBool found (self.old ≡ fields_of row.new ∷ self.new) ((self.old ≡ []) × (self.new ≡ []))) }
+        ensures { IfOk result (λ found. MatchBool found (self.old ≡ fields_of row.new ∷ self.new)
+            ((self.old ≡ []) × (self.new ≡ []))) }
     {
-        if !self.goes {
+        if !self.live {
             return Ok(false);
         }
-        // A failed read leaves it so.
-        self.goes = false;
+        // This stays so if the read fails.
+        self.live = false;
         let Ok(found) = self.reader.read_byte_record(row) else {
             return Err(NoMemory);
         };
-        self.goes = found;
+        self.live = found;
         Ok(found)
     }
 }

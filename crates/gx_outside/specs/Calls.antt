@@ -1,4 +1,4 @@
--- Calls of a source or a sink in memory, which are counted and of which some fail by their number.
+-- The calls of files or of a sink in memory: they are counted, and some fail by their number.
 use Rattle.std.specs.Prelude.{ℕ, ◌+◌, min, Bool, List, ◌==◌, if◌then◌else◌}
 use Rattle.std.specs.List.{list_any}
 use Rattle.gx_outside.specs.Faults.{LAST_COUNT}
@@ -13,7 +13,7 @@ pub record CallCounts : Type 0 where
 abbrev pub no_calls : List ℕ → CallCounts
 no_calls failing = record { failing = failing; calls = 0; faults = 0 }
 
--- the count after this one, which stands still at its end
+-- the count after this one; the last number follows itself
 abbrev pub next_count : ℕ → ℕ
 next_count n = min (n + 1) LAST_COUNT
 
@@ -21,14 +21,14 @@ next_count n = min (n + 1) LAST_COUNT
 abbrev pub fails_next : CallCounts → Bool
 fails_next c = list_any (λ n. n == c.calls) c.failing
 
--- after a call that met no fault
-abbrev pub passed : CallCounts → CallCounts
-passed c = record c { calls = next_count c.calls }
+-- the counts after a call that met no fault
+abbrev pub after_success : CallCounts → CallCounts
+after_success c = record c { calls = next_count c.calls }
 
--- after a call that met a fault
-abbrev pub faulted : CallCounts → CallCounts
-faulted c = record c { calls = next_count c.calls; faults = next_count c.faults }
+-- the counts after a call that met a fault
+abbrev pub after_fault : CallCounts → CallCounts
+after_fault c = record c { calls = next_count c.calls; faults = next_count c.faults }
 
--- after a call that meets a fault only where its number says so
-abbrev pub called : CallCounts → CallCounts
-called c = if fails_next c then faulted c else passed c
+-- the counts after a call that meets a fault only if its number says so
+abbrev pub after_call : CallCounts → CallCounts
+after_call c = if fails_next c then after_fault c else after_success c

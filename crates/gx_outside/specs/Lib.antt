@@ -1,6 +1,6 @@
 pub mod Calls
+pub mod Contents
 pub mod Faults
-pub mod Held
 pub mod MemFiles
 pub mod MemSinks
-pub mod Parts
+pub mod Prefixes

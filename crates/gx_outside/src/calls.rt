@@ -1,12 +1,12 @@
-//! The calls of a source or a sink in memory, of which some fail.
+//! Counts of calls and of faults, for the fakes in memory, and which of the calls fail.
 
 ghost use Rattle.std.specs.Prelude.{◌≡◌, ◌≤◌};
-ghost use Rattle.gx_outside.specs.Calls.{no_calls, next_count, fails_next, called};
+ghost use Rattle.gx_outside.specs.Calls.{no_calls, next_count, fails_next, after_call};
 
 use std::marker::Model;
 
 /// How many calls were made and how many faults they met, beside the numbers of the calls that
-/// fail. Both counts stand still at the last number of `u64`.
+/// fail. Both counts stay at the last number of `u64`.
 #[derive(Debug, Drop)]
 pub(crate) struct Calls {
     failing: Vec<u64>,
@@ -48,11 +48,12 @@ impl Calls {
         self.faults
     }
 
-    /// Counts a call, and says whether it fails by its number. That is a fault, which is counted.
-    pub(crate) fn falters(&mut self) -> bool
-        ensures fails { result ≡ fails_next self.old }
-        ensures after { self.new ≡ called self.old }
-        ensures later { self.old.faults ≤ self.new.faults }
+    /// Counts a call, and returns whether it fails by its number. That is a fault, and is counted
+    /// too.
+    pub(crate) fn count_call(&mut self) -> bool
+        ensures fails_by_number { result ≡ fails_next self.old }
+        ensures call_counted { self.new ≡ after_call self.old }
+        ensures faults_only_rise { self.old.faults ≤ self.new.faults }
     {
         let fails = self.failing.contains(&self.made);
         self.made = self.made.saturating_add(1);
@@ -64,8 +65,8 @@ impl Calls {
 
     /// Counts a fault of the last call, which did not fail by its number.
     pub(crate) fn add_fault(&mut self)
-        ensures after { self.new ≡ record self.old { faults = next_count self.old.faults } }
-        ensures later { self.old.faults ≤ self.new.faults }
+        ensures fault_counted { self.new ≡ record self.old { faults = next_count self.old.faults } }
+        ensures faults_only_rise { self.old.faults ≤ self.new.faults }
     {
         self.faults = self.faults.saturating_add(1);
     }

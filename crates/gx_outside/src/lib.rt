@@ -1,10 +1,11 @@
-//! The outside of a run: where files come from, and where output goes.
+//! The outside of a run: the traits `Files` and `Sink`, and fakes of both in memory.
 //!
-//! `Files` is a source of named bytes and `Sink` takes written bytes. A contract tells what either
-//! holds only where it is told, as the fakes `MemFiles` and `MemSink` tell it; a real device tells
-//! nothing, and counts its faults. The crate stands on `gx_rows` for want of memory. The loader reads
-//! through `Files`, the top call writes through `Sink`, and the adapters over real files and streams
-//! stand in the program.
+//! `Files` is a source of named files and `Sink` takes written bytes. Contracts can name the
+//! contents of a source, or the bytes that a sink took, only if an implementation exposes them, as
+//! the fakes `MemFiles` and `MemSink` do; of a real device nothing is known but its count of
+//! faults. The crate depends on `gx_rows` for `NoMemory`. The loader reads through `Files`, the top
+//! call writes through `Sink`. The crate never sees a real file or stream: those adapters are in
+//! the program.
 #![tactic(auto)]
 
 mod calls;

@@ -1,11 +1,12 @@
-//! A sink in memory.
+//! A sink in memory, for tests and for contracts that name what was written: writes take a few
+//! bytes at a time, and chosen calls fail.
 
 ghost use Rattle.std.specs.Prelude.{◌≡◌, ◌≤◌, ◌<◌, length, Some, slice_get, IfOk, IsOk, OnOk, OnErr, is_err};
 ghost use Rattle.std.specs.Option.{unwrap_or};
 ghost use Rattle.std.specs.List.{All};
 ghost use Rattle.std.specs.Io.KnownBytes.{WriteAppends};
 ghost use Rattle.gx_outside.specs.Faults.{HasCause};
-ghost use Rattle.gx_outside.specs.MemSinks.{empty_sink, fails_write, taken, after_write, after_failed_write};
+ghost use Rattle.gx_outside.specs.MemSinks.{empty_sink, fails_write, write_count, after_write, after_failed_write};
 
 use crate::calls::Calls;
 use crate::{Failed, Sink};
@@ -13,8 +14,9 @@ use gx_rows::NoMemory;
 use std::alloc::Global;
 use std::marker::Model;
 
-/// A sink that keeps the bytes in memory, takes each write in part and fails where it was told to.
-/// Contracts see its bytes, its room, the most that each write takes, and its counts.
+/// A sink that keeps the bytes in memory. Each write takes at most a chosen number of bytes, and
+/// the writes with chosen numbers fail. Contracts see its bytes, its room, the most that each write
+/// takes, and its counts.
 #[derive(Debug, Drop)]
 pub struct MemSink {
     bytes: Vec<u8>,
@@ -43,12 +45,12 @@ impl Model for MemSink {
 
 impl MemSink {
     /// An empty sink with room for `room` bytes. Its write of number `i`, counted from 0, takes at
-    /// most `pieces[i]` bytes, or all past the end of `pieces`, and fails where `failing` has `i`.
-    /// All memory that it needs is taken here.
+    /// most `pieces[i]` bytes, or all past the end of `pieces`, and fails if `failing` has `i`. All
+    /// memory that it needs is taken here.
     ///
     /// # Errors
     ///
-    /// `NoMemory` where there is no memory for `room` bytes.
+    /// `NoMemory` if there is no memory for `room` bytes.
     pub fn of(
         alloc: Global,
         pieces: Vec<usize>,
@@ -56,8 +58,8 @@ impl MemSink {
         room: usize,
     ) -> Result<MemSink, NoMemory>
         requires { All (λ n. 1 ≤ n) pieces.items }
-        ensures empty { IfOk result (λ s. s ≡ empty_sink pieces.items failing.items room) }
-        ensures none { room ≡ 0 → IsOk result }
+        ensures starts_empty { IfOk result (λ s. s ≡ empty_sink pieces.items failing.items room) }
+        ensures no_room_always_ok { room ≡ 0 → IsOk result }
     {
         Ok(MemSink {
             bytes: Vec::with_capacity(alloc, room)?,
@@ -87,25 +89,27 @@ impl Sink for MemSink {
 
     ghost faults = { λ s. s.counts.faults };
 
-    /// Takes as many bytes from the front of `piece` as this write takes and there is room for.
+    /// Takes bytes from the start of `piece`, as many as this write may take and as there is room
+    /// for.
     ///
     /// # Errors
     ///
-    /// `Failed` where this write was to fail, or there is no room for any byte of a piece that is
-    /// not empty. Both are faults and are counted.
+    /// `Failed` if this write has the number of one that fails, or if there is no room for any byte
+    /// of a piece that is not empty. Both are faults and are counted.
     fn write(&mut self, piece: &[u8]) -> Result<usize, Failed>
-        ensures later { self.old.counts.faults ≤ self.new.counts.faults }
-        ensures bound { IfOk result (λ n. n ≤ length piece.now) }
-        ensures some { IfOk result (λ n. 0 < length piece.now → 0 < n) }
-        ensures bytes { WriteAppends (Some self.old.bytes) (Some self.new.bytes) result piece.now }
-        ensures cause { HasCause self.old.counts.faults self.new.counts.faults result }
-        ensures fails { is_err result ≡ fails_write self.old piece.now }
-        ensures count { IfOk result (λ n. n ≡ taken self.old piece.now) }
-        ensures after { OnOk result (self.new ≡ after_write self.old piece.now) }
-        ensures after_failed { OnErr result (self.new ≡ after_failed_write self.old) }
+        ensures faults_only_rise { self.old.counts.faults ≤ self.new.counts.faults }
+        ensures within_piece { IfOk result (λ n. n ≤ length piece.now) }
+        ensures takes_some { IfOk result (λ n. 0 < length piece.now → 0 < n) }
+        ensures piece_appended { WriteAppends (Some self.old.bytes) (Some self.new.bytes) result
+            piece.now }
+        ensures err_has_cause { HasCause self.old.counts.faults self.new.counts.faults result }
+        ensures fails_exactly { is_err result ≡ fails_write self.old piece.now }
+        ensures count_exact { IfOk result (λ n. n ≡ write_count self.old piece.now) }
+        ensures state_if_ok { OnOk result (self.new ≡ after_write self.old piece.now) }
+        ensures state_if_err { OnErr result (self.new ≡ after_failed_write self.old) }
     {
-        let most = entry_or(&self.pieces, self.calls.number(), piece.len());
-        if self.calls.falters() {
+        let most = item_or(&self.pieces, self.calls.number(), piece.len());
+        if self.calls.count_call() {
             return Err(Failed);
         }
         if !piece.is_empty() && self.room == 0 {
@@ -119,11 +123,11 @@ impl Sink for MemSink {
     }
 }
 
-/// The entry of this number, counted from 0, or `other` past the end.
-fn entry_or(pieces: &[usize], number: u64, other: usize) -> usize
+/// The item of this number, counted from 0, or `other` past the end.
+fn item_or(pieces: &[usize], number: u64, other: usize) -> usize
     requires { All (λ n. 1 ≤ n) pieces.now }
-    ensures value { result ≡ unwrap_or (slice_get pieces.now number) other }
-    ensures some { 0 < other → 0 < result }
+    ensures item { result ≡ unwrap_or (slice_get pieces.now number) other }
+    ensures nonzero { 0 < other → 0 < result }
 {
     pieces.get(number as usize).copied().unwrap_or(other)
 }

@@ -35,7 +35,7 @@ module _ {K : Type 0} {R : K → K → Ordering} (o : IsTotalOrder R) (exact : (
   inserted q k x xs more Equal p = rw (exact k x p) (or_twice (is_at (R q) x) (among q xs))
   inserted q k x xs more Greater p = ap (λ b. is_at (R q) x || b) more ∙ or_swap (is_at (R q) x) (is_at (R q) k) (among q xs)
 
-  -- a key is among those after an insertion where it is the new one or was among them
+  -- a key is among those after an insertion if it is the new one or was among them
   pub among-insert_key : (q k : K) (ks : List K) → among q (insert_key R ks k) ≡ is_at (R q) k || among q ks
   among-insert_key q k [] = refl
   among-insert_key q k (x ∷ xs) = inserted q k x xs (among-insert_key q k xs) (R k x) refl
@@ -70,7 +70,7 @@ module _ {K : Type 0} {R : K → K → Ordering} (o : IsTotalOrder R) (exact : (
   sorted-insert_key k (x ∷ xs) s = sorted_step k x xs s.0 s.1 (sorted-insert_key k xs s.1) (R k x) refl
 
   module _ {X : Type 0} (f : K → Option X) where
-    -- the keys at which f gives a value, each with that value
+    -- the keys at which f has a value, each with that value
     abbrev pub picked : List K → List (K × X)
     picked ks = filter_map (λ k. option_map (λ x. (k, x)) (f k)) ks
 
@@ -85,7 +85,7 @@ module _ {K : Type 0} {R : K → K → Ordering} (o : IsTotalOrder R) (exact : (
     found_step q k ks more false e None p = more
     found_step q k ks more false e (Some x) p = lookup_tail (is_at (R q)) (k, x) (picked ks) e ∙ more
 
-    -- a look-up among the picked entries finds what f gives at a key that is among theirs
+    -- a look-up among the picked entries finds the value of f at a key that is among theirs
     pub lookup-picked : (q : K) (ks : List K) → lookup (is_at (R q)) (picked ks) ≡ cond (among q ks) (f q) None
     lookup-picked q [] = refl
     lookup-picked q (k ∷ ks) = found_step q k ks (lookup-picked q ks) (is_at (R q) k) refl (f k) refl

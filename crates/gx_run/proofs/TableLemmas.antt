@@ -13,7 +13,7 @@ use Rattle.std.proofs.lemmas.List.Kept.{IsStrictlySortedBy-dedup}
 use Rattle.std.proofs.lemmas.Map.Lookups.{exact_signed}
 use Rattle.gx_rows.specs.declared.value.Value.{Value}
 use Rattle.gx_rows.specs.declared.vid.Vid.{Vid}
-use Rattle.gx_load.specs.Loading.{Loaded}
+use Rattle.gx_load.specs.Loading.{LoadedRow}
 use Rattle.gx_run.specs.Tables.{Entry, entries_of, first_row, identifiers, table, vid_cmp}
 use Rattle.gx_run.proofs.Keys.{among, among-insert_key, sorted-insert_key, lookup-picked, sorted-picked}
 use Rattle.gx_run.proofs.Ordered.{same_entries}
@@ -25,7 +25,7 @@ pub vid_cmp_exact : (v w : Vid) → vid_cmp v w ≡ Equal → v ≡ w
 vid_cmp_exact v w e = λ i. record { 0 = exact_signed v.0 w.0 e i }
 
 -- two rows are of one identifier
-abbrev pub has_same_vid : Loaded → Loaded → Bool
+abbrev pub has_same_vid : LoadedRow → LoadedRow → Bool
 has_same_vid r s = eq_by_cmp vid_cmp r.0 s.0
 
 -- ---- the definition: ascending, and a look-up finds the first row
@@ -63,11 +63,11 @@ first_row-table q es =
 
 -- ---- a stable sort leaves the first row of each identifier the first
 
-abbrev first_of : List Loaded → Option (List Value)
+abbrev first_of : List LoadedRow → Option (List Value)
 first_of [] = None
 first_of (r ∷ rs) = Some r.2
 
-first_by_filter : (p : Loaded → Bool) (q : Vid) → ((r : Loaded) → p r ≡ is_at (vid_cmp q) r.0) → (rs : List Loaded)
+first_by_filter : (p : LoadedRow → Bool) (q : Vid) → ((r : LoadedRow) → p r ≡ is_at (vid_cmp q) r.0) → (rs : List LoadedRow)
     → first_row q (entries_of rs) ≡ first_of (filter p rs)
 first_by_filter p q h [] = refl
 first_by_filter p q h (r ∷ rs) = by (is_at (vid_cmp q) r.0) (h r) (first_by_filter p q h rs)
@@ -85,11 +85,11 @@ ties_are_same v w = ap (λ r. not (is_lt (vid_cmp v w)) && not (is_lt r)) (vid_c
     by Equal = refl
     by Greater = refl
 
-pub first_row-stable : (q : Vid) (rs ss : List Loaded) → IsStableByKey (λ r. r.0) vid_cmp rs ss → first_row q (entries_of ss) ≡ first_row q (entries_of rs)
+pub first_row-stable : (q : Vid) (rs ss : List LoadedRow) → IsStableByKey (λ r. r.0) vid_cmp rs ss → first_row q (entries_of ss) ≡ first_row q (entries_of rs)
 first_row-stable q rs ss stable =
-    let row : Loaded = (q, q, []) in
+    let row : LoadedRow = (q, q, []) in
     let tied = ties (λ x y. is_lt (vid_cmp x.0 y.0)) row in
-    let same = λ (r : Loaded). ties_are_same q r.0 in
+    let same = λ (r : LoadedRow). ties_are_same q r.0 in
     first_by_filter tied q same ss ∙ ap first_of (stable row) ∙ sym (first_by_filter tied q same rs)
 
 -- ---- without the later rows of each identifier
@@ -98,7 +98,7 @@ first_counts : {X : Type 0} (t : Bool) (x y : X) (u : Option X) → cond t (Some
 first_counts true x y u = refl
 first_counts false x y u = refl
 
-first_row-dedup_from : (q : Vid) (k : Loaded) (rs : List Loaded) → first_row q (entries_of (dedup_from has_same_vid k rs)) ≡ first_row q (entries_of (k ∷ rs))
+first_row-dedup_from : (q : Vid) (k : LoadedRow) (rs : List LoadedRow) → first_row q (entries_of (dedup_from has_same_vid k rs)) ≡ first_row q (entries_of (k ∷ rs))
 first_row-dedup_from q k [] = refl
 first_row-dedup_from q k (r ∷ rs) = by (has_same_vid r k) refl (first_row-dedup_from q k rs) (first_row-dedup_from q r rs)
   where
@@ -111,21 +111,21 @@ first_row-dedup_from q k (r ∷ rs) = by (has_same_vid r k) refl (first_row-dedu
         gone ∙ sym (ap (λ v. cond (is_at (vid_cmp q) k.0) (Some k.2) (cond (is_at (vid_cmp q) v) (Some r.2) (first_row q (entries_of rs)))) key ∙ first_counts (is_at (vid_cmp q) k.0) k.2 r.2 (first_row q (entries_of rs)))
     by false e gone kept = ap (λ u. cond (is_at (vid_cmp q) k.0) (Some k.2) u) kept
 
-pub first_row-dedup : (q : Vid) (rs : List Loaded) → first_row q (entries_of (dedup has_same_vid rs)) ≡ first_row q (entries_of rs)
+pub first_row-dedup : (q : Vid) (rs : List LoadedRow) → first_row q (entries_of (dedup has_same_vid rs)) ≡ first_row q (entries_of rs)
 first_row-dedup q [] = refl
 first_row-dedup q (r ∷ rs) = first_row-dedup_from q r rs
 
-sorted_keys : (rs : List Loaded) → IsStrictlySortedBy (λ r s. vid_cmp r.0 s.0) rs → IsStrictlySortedBy vid_cmp (keys_of (entries_of rs))
+sorted_keys : (rs : List LoadedRow) → IsStrictlySortedBy (λ r s. vid_cmp r.0 s.0) rs → IsStrictlySortedBy vid_cmp (keys_of (entries_of rs))
 unfolding IsStrictlySortedBy
 sorted_keys [] s = tt
 sorted_keys (r ∷ rs) s = (below r rs s.0, sorted_keys rs s.1)
   where
-    below : (r : Loaded) (rs : List Loaded) → AllByRecursion (λ y. vid_cmp r.0 y.0 ≡ Less) rs → AllByRecursion (λ y. vid_cmp r.0 y ≡ Less) (keys_of (entries_of rs))
+    below : (r : LoadedRow) (rs : List LoadedRow) → AllByRecursion (λ y. vid_cmp r.0 y.0 ≡ Less) rs → AllByRecursion (λ y. vid_cmp r.0 y ≡ Less) (keys_of (entries_of rs))
     below r [] all = tt
     below r (x ∷ xs) all = (all.0, below r xs all.1)
 
 -- sorted by identifier, in a stable way, and without the later rows of each identifier: the table
-pub table_is : (rs ss : List Loaded) → IsSortedByKey (λ r. r.0) vid_cmp ss → IsStableByKey (λ r. r.0) vid_cmp rs ss
+pub table_is : (rs ss : List LoadedRow) → IsSortedByKey (λ r. r.0) vid_cmp ss → IsStableByKey (λ r. r.0) vid_cmp rs ss
     → entries_of (dedup has_same_vid ss) ≡ table (entries_of rs)
 table_is rs ss sorted stable =
     same_entries vid_cmp_total vid_cmp_exact (entries_of (dedup has_same_vid ss)) (table (entries_of rs))

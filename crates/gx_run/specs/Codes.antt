@@ -3,7 +3,8 @@ use Rattle.std.specs.Prelude.{ℕ}
 use Rattle.gx_run.specs.declared.status.Status.{Status}
 use Rattle.gx_run.specs.declared.status.Status.TheVariants as status
 
--- 0 where the run is done, 1 where the script or a file was refused, and a number of its own for each other end
+-- 0 if the run is done, 1 if the script or a file was refused, and a number of its own for each
+-- other end
 abbrev pub code_of : Status → ℕ
 code_of status.Done = 0
 code_of (status.Script stop) = 1

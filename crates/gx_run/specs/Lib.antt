@@ -1,9 +1,10 @@
-pub mod Answers
+pub mod Args
 pub mod Codes
 pub mod Lines
 pub mod Meaning
+pub mod RunResults
 pub mod Scripts
 pub mod Spelling
+pub mod Steps
 pub mod Tables
 pub mod Texts
-pub mod Words

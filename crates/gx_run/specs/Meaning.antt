@@ -1,32 +1,28 @@
--- What a run comes to, over plain lists: the text that it prints, or the refusal that ends it.
-use Rattle.std.specs.Prelude.{ℕ, if◌then◌else◌, nat_lt, List, [], ◌∷◌, length, codes, Option, None, Some, ok_or, Result, Ok, Err}
-use Rattle.std.specs.List.{slice_get}
+-- What a run produces, over plain lists: the text that it prints, or the refusal that ends it.
+use Rattle.std.specs.Prelude.{ℕ, if◌then◌else◌, nat_lt, List, [], ◌∷◌, length, codes, Option, None, Some, option_map, ok_or, Result, Ok, Err}
 use Rattle.std.specs.Str.{bytes_eq}
-use Rattle.gx_rows.specs.Columns.{Column, names_of}
-use Rattle.gx_rows.specs.Steps.{◌>>=◌}
+use Rattle.gx_rows.specs.Columns.{Column}
+use Rattle.gx_rows.specs.Results.{◌>>=◌}
 use Rattle.gx_rows.specs.declared.limit_kind.LimitKind.{LimitKind}
 use Rattle.gx_rows.specs.declared.limit_kind.LimitKind.TheVariants as limit_kind
-use Rattle.gx_outside.specs.Held.{Entries, bytes_under}
-use Rattle.gx_load.specs.Loading.{Loaded, loaded}
+use Rattle.gx_outside.specs.Contents.{Contents, bytes_under}
+use Rattle.gx_load.specs.Loading.{LoadedRow, column_name_of, rows_of_csv}
 use Rattle.gx_load.specs.declared.load_stop.LoadStop.{LoadStop}
 use Rattle.gx_load.specs.declared.load_stop.LoadStop.TheVariants as load_stop
-use Rattle.gx_load.specs.declared.load_stop.RowStop.{RowStop}
-use Rattle.gx_load.specs.declared.load_stop.RowStop.TheVariants as row_stop
 use Rattle.gx_run.specs.Scripts.{script_of}
 use Rattle.gx_run.specs.Tables.{entries_of, table}
 use Rattle.gx_run.specs.Texts.{table_text}
-use Rattle.gx_run.specs.declared.script.Form.{Form}
 use Rattle.gx_run.specs.declared.status.ScriptStop.TheVariants as script_stop
 use Rattle.gx_run.specs.declared.status.Status.{Status}
 use Rattle.gx_run.specs.declared.status.Status.TheVariants as status
 use Rattle.gx_run.specs.declared.status.SyntaxKind.TheVariants as syntax_kind
 
--- the script's name, where the words are `run` and that name
-abbrev pub script_word : List (List ℕ) → Option (List ℕ)
-script_word [] = None
-script_word (command ∷ []) = None
-script_word (command ∷ name ∷ []) = if bytes_eq command (codes "run") then Some name else None
-script_word (command ∷ name ∷ more ∷ rest) = None
+-- the script's name, if the arguments are `run` and that name
+abbrev pub script_arg : List (List ℕ) → Option (List ℕ)
+script_arg [] = None
+script_arg (command ∷ []) = None
+script_arg (command ∷ name ∷ []) = if bytes_eq command (codes "run") then Some name else None
+script_arg (command ∷ name ∷ more ∷ rest) = None
 
 -- the most bytes of a script
 abbrev pub most_script_bytes : ℕ
@@ -37,48 +33,43 @@ abbrev pub most_file_bytes : ℕ
 most_file_bytes = 33554432
 
 -- the bytes of a file, which must be there and have at most so many
-abbrev pub file_bytes : LimitKind → ℕ → List ℕ → Entries → Result (List ℕ) Status
-file_bytes kind most name held =
-    ok_or (bytes_under name held) (status.Source name) >>= λ bytes.
+abbrev pub file_bytes : LimitKind → ℕ → List ℕ → Contents → Result (List ℕ) Status
+file_bytes kind most name contents =
+    ok_or (bytes_under name contents) (status.Source name) >>= λ bytes.
     if nat_lt most (length bytes) then Err (status.Limit kind) else Ok bytes
 
--- the script of this name
-abbrev pub form_under : List ℕ → Entries → Result Form Status
-form_under name held =
-    file_bytes limit_kind.ScriptBytes most_script_bytes name held >>= λ bytes.
-    ok_or (script_of bytes) (status.Script (script_stop.Syntax 0 syntax_kind.Unexpected))
+-- the file that the script of this name loads, and the columns of its table
+abbrev pub script_under : List ℕ → Contents → Result (List ℕ × List Column) Status
+script_under name contents =
+    file_bytes limit_kind.ScriptBytes most_script_bytes name contents >>= λ bytes.
+    ok_or (option_map (λ form. (form.file, form.columns)) (script_of bytes))
+    (status.Script (script_stop.Syntax 0 syntax_kind.Unexpected))
 
--- the name of the column of a refused place, where the place has one
-abbrev pub column_of : List Column → RowStop → Option (List ℕ)
-column_of columns (row_stop.Header column) = slice_get (codes "id" ∷ names_of columns) column
-column_of columns (row_stop.Shape row) = None
-column_of columns (row_stop.Cell row column kind) = slice_get (codes "id" ∷ names_of columns) column
-column_of columns (row_stop.Line line) = None
-
--- the refusal of a run whose data file is refused
-abbrev pub refusal_of : Form → LoadStop → Status
-refusal_of form (load_stop.Data stop) = status.Data (record { file = form.file; column = column_of form.columns stop; stop = stop })
-refusal_of form load_stop.TooManyRows = status.Limit limit_kind.FileRows
-refusal_of form load_stop.NoMemory = status.NoMemory
+-- the refusal of a run whose data file, of this name and with these columns, is refused
+abbrev pub refusal_of : List ℕ → List Column → LoadStop → Status
+refusal_of file columns (load_stop.Data stop) =
+    status.Data (record { file = file; column = column_name_of 1 columns stop; stop = stop })
+refusal_of file columns load_stop.TooManyRows = status.Limit limit_kind.FileRows
+refusal_of file columns load_stop.NoMemory = status.NoMemory
 
 -- the loaded rows, or that refusal
-abbrev pub rows_or_refusal : Form → Result (List Loaded) LoadStop → Result (List Loaded) Status
-rows_or_refusal form (Ok rows) = Ok rows
-rows_or_refusal form (Err stop) = Err (refusal_of form stop)
+abbrev pub rows_or_refusal : List ℕ → List Column → Result (List LoadedRow) LoadStop → Result (List LoadedRow) Status
+rows_or_refusal file columns (Ok rows) = Ok rows
+rows_or_refusal file columns (Err stop) = Err (refusal_of file columns stop)
 
--- the rows of the script's data file
-abbrev pub rows_under : Form → Entries → Result (List Loaded) Status
-rows_under form held =
-    file_bytes limit_kind.FileBytes most_file_bytes form.file held >>= λ bytes.
-    rows_or_refusal form (loaded 1 form.columns bytes)
+-- the rows of the data file of this name under these columns
+abbrev pub rows_of_file : List ℕ → List Column → Contents → Result (List LoadedRow) Status
+rows_of_file file columns contents =
+    file_bytes limit_kind.FileBytes most_file_bytes file contents >>= λ bytes.
+    rows_or_refusal file columns (rows_of_csv 1 columns bytes)
 
--- what the script of this name prints
-abbrev pub printed : List ℕ → Entries → Result (List ℕ) Status
-printed name held =
-    form_under name held >>= λ form.
-    rows_under form held >>= λ rows.
-    Ok (table_text form.columns (table (entries_of rows)))
+-- the output of the script of this name
+abbrev pub output_of : List ℕ → Contents → Result (List ℕ) Status
+output_of name contents =
+    script_under name contents >>= λ script.
+    rows_of_file script.0 script.1 contents >>= λ rows.
+    Ok (table_text script.1 (table (entries_of rows)))
 
--- what a run with these words comes to over these files
-abbrev pub meaning : List (List ℕ) → Entries → Result (List ℕ) Status
-meaning words held = ok_or (script_word words) status.Usage >>= λ name. printed name held
+-- what a run with these arguments produces over these files
+abbrev pub meaning : List (List ℕ) → Contents → Result (List ℕ) Status
+meaning args contents = ok_or (script_arg args) status.Usage >>= λ name. output_of name contents

@@ -8,7 +8,7 @@ use Rattle.std.specs.Ordering.{int_cmp}
 use Rattle.std.specs.declared.cmp.Ordering.{Ordering}
 use Rattle.gx_rows.specs.declared.value.Value.{Value}
 use Rattle.gx_rows.specs.declared.vid.Vid.{Vid}
-use Rattle.gx_load.specs.Loading.{Loaded}
+use Rattle.gx_load.specs.Loading.{LoadedRow}
 
 -- a row under its identifier
 abbrev pub Entry : Type 0
@@ -19,18 +19,19 @@ abbrev pub vid_cmp : Vid → Vid → Ordering
 vid_cmp v w = int_cmp v.0 w.0
 
 -- the loaded rows of vertices, each under its identifier
-abbrev pub entries_of : List Loaded → List Entry
+abbrev pub entries_of : List LoadedRow → List Entry
 entries_of rows = map (λ row. (row.0, row.2)) rows
 
 -- the first row of an identifier
 abbrev pub first_row : Vid → List Entry → Option (List Value)
 first_row v entries = lookup (is_at (vid_cmp v)) entries
 
--- the identifiers that occur, each once, ascending
+-- the identifiers, each once, ascending
 abbrev pub identifiers : List Entry → List Vid
 identifiers [] = []
 identifiers (entry ∷ entries) = insert_key vid_cmp (identifiers entries) entry.0
 
--- the table of these entries: the identifiers that occur, ascending, each with its first row
+-- the table of these entries: their identifiers, ascending, each with its first row
 unfoldable pub table : List Entry → List Entry
-table entries = filter_map (λ v. option_map (λ row. (v, row)) (first_row v entries)) (identifiers entries)
+table entries =
+    filter_map (λ v. option_map (λ row. (v, row)) (first_row v entries)) (identifiers entries)

@@ -1,5 +1,5 @@
 -- The text of a printed table, as `csv` writes it.
-use Rattle.std.specs.Prelude.{ℕ, List, ◌∷◌, ◌++◌, map, codes}
+use Rattle.std.specs.Prelude.{ℕ, ℤ, List, [], ◌∷◌, ◌++◌, map, codes, if◌then◌else◌}
 use Rattle.std.specs.List.{flat_map}
 use Rattle.std.specs.Fmt.{signed_decimal}
 use Rattle.csv.specs.Writing.{default_writer, row_text}
@@ -8,9 +8,17 @@ use Rattle.gx_rows.specs.declared.value.Value.{Value}
 use Rattle.gx_rows.specs.declared.value.Value.TheVariants as value
 use Rattle.gx_run.specs.Tables.{Entry}
 
--- a value as it is printed: a whole number in decimal
+-- a list of identifiers as it is printed: in decimal, with one space between
+abbrev pub ids_text : List ℤ → List ℕ
+ids_text [] = []
+ids_text (id ∷ ids) = signed_decimal id ++ flat_map (λ n. 32 ∷ signed_decimal n) ids
+
+-- a value as it is printed: a whole number in decimal, a text as it is, `true` or `false`, a list
 abbrev pub value_text : Value → List ℕ
 value_text (value.Int number) = signed_decimal number
+value_text (value.Text bytes) = bytes
+value_text (value.Bool truth) = if truth then codes "true" else codes "false"
+value_text (value.Ids ids) = ids_text ids
 
 -- the header line: `id`, and the names of the columns
 unfoldable pub header_line : List Column → List ℕ

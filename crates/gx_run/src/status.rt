@@ -1,22 +1,23 @@
-//! What a run ends with.
+//! The ends of a run, and the exit status of each.
 
 ghost use Rattle.std.specs.Prelude.{◌≡◌};
 ghost use Rattle.gx_run.specs.Codes.{code_of};
+ghost use Rattle.gx_run.specs.declared.status.Status.TheVariants as status;
 
 use gx_load::RowStop;
-use gx_rows::{LimitKind, Text};
+use gx_rows::{LimitKind, NoMemory, Text};
 
-/// What is wrong at a place of a script.
+/// What is wrong at an offset of a script.
 #[derive(Clone, Copy, Debug, PartialEq, Eq)]
 pub enum SyntaxKind {
-    /// The script is not of the form that is run.
+    /// The script is not one that can be run.
     Unexpected,
 }
 
 /// Why a script was refused.
 #[derive(Clone, Copy, Debug, PartialEq, Eq)]
 pub enum ScriptStop {
-    /// The first refused place, in bytes from the script's start, and what is wrong there.
+    /// The first refused offset, in bytes, and what is wrong there.
     Syntax(u32, SyntaxKind),
 }
 
@@ -25,30 +26,30 @@ pub enum ScriptStop {
 pub struct DataStop {
     /// The file's name.
     pub file: Text,
-    /// The name of the column, where the place has one.
+    /// The name of the column, if the refused position is a column's.
     pub column: Option<Text>,
-    /// The first refused place.
+    /// The first refused position.
     pub stop: RowStop,
 }
 
-/// What a run ends with.
+/// The end of a run.
 #[derive(Debug, Drop)]
 pub enum Status {
     /// The whole output was written.
     Done,
-    /// The words are not a command of `gx`.
+    /// The arguments are not a command of `gx`.
     Usage,
     /// The script was refused.
     Script(ScriptStop),
     /// A data file was refused.
     Data(DataStop),
-    /// A quantity passed its limit.
+    /// A quantity is past its limit.
     Limit(LimitKind),
     /// The file of this name could not be read.
     Source(Text),
     /// The output could not be written.
     Sink,
-    /// Memory ran out.
+    /// Out of memory.
     NoMemory,
 }
 
@@ -66,5 +67,13 @@ impl Status {
             Status::Sink => 5,
             Status::NoMemory => 6,
         }
+    }
+}
+
+impl From<NoMemory> for Status {
+    ghost from_gives = { λ _ end. end ≡ status.NoMemory };
+
+    fn from(_error: NoMemory) -> Status {
+        Status::NoMemory
     }
 }

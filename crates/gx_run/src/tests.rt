@@ -1,127 +1,13 @@
-//! Whole runs, over files and sinks in memory.
+//! Whole runs, over files and sinks in memory. Each row is run under each configuration of
+//! `support`.
 
-ghost use Rattle.std.specs.Prelude.{◌≤◌, IfOk, All};
+mod support;
 
-use crate::{DataStop, ScriptStop, Status, run};
-use gx_load::RowStop;
-use gx_outside::{MemFiles, MemSink};
+use gx_outside::MemFiles;
 use std::alloc::{AllocError, Global};
+use std::process::Abort;
 use std::test::Fail;
-
-// The script that most cases run.
-const AGES: &str = "vertices a from \"ages.csv\" (age: int); print table a;";
-
-// What fails in a run: the opens and reads with this number, the write with this number, and the
-// most bytes that the first write takes; 0 where it takes all.
-#[derive(Clone, Copy)]
-struct Faults {
-    read: Option<u64>,
-    write: Option<u64>,
-    piece: usize,
-}
-
-const NONE: Faults = Faults {
-    read: None,
-    write: None,
-    piece: 0,
-};
-
-fn list_of<T>(alloc: Global, item: Option<T>) -> Result<Vec<T>, AllocError>
-where
-    T: Drop,
-{
-    let mut items = Vec::new(alloc);
-    if let Some(item) = item {
-        items.push(item)?;
-    }
-    Ok(items)
-}
-
-// The most bytes of each write, for a first write of at most `piece` bytes.
-fn pieces_of(alloc: Global, piece: usize) -> Result<Vec<usize>, AllocError>
-    ensures { IfOk result (λ pieces. All (λ n. 1 ≤ n) pieces.items) }
-{
-    let mut pieces = Vec::new(alloc);
-    if piece > 0 {
-        pieces.push(piece)?;
-    }
-    Ok(pieces)
-}
-
-fn words_of(alloc: Global, words: &[&str]) -> Result<Vec<String>, AllocError> {
-    let mut owned = Vec::new(alloc);
-    for word in words {
-        owned.push(String::from_str(alloc, *word)?)?;
-    }
-    Ok(owned)
-}
-
-// The files `s.gx` and `ages.csv`.
-fn files_of(
-    alloc: Global,
-    script: Vec<u8>,
-    data: Vec<u8>,
-    piece: usize,
-    failing: Option<u64>,
-) -> Result<MemFiles, AllocError>
-    requires { 1 ≤ piece }
-{
-    let mut files = Vec::new(alloc);
-    files.push((String::from_str(alloc, "s.gx")?, script))?;
-    files.push((String::from_str(alloc, "ages.csv")?, data))?;
-    Ok(MemFiles::of(files, piece, list_of(alloc, failing)?))
-}
-
-// The status as a text, with what it carries.
-fn end_of(alloc: Global, status: &Status) -> Result<String, AllocError> {
-    let code = status.code();
-    match status {
-        Status::Done => format!(in alloc; "{code}"),
-        Status::Usage => format!(in alloc; "{code} usage"),
-        Status::Script(ScriptStop::Syntax(place, _)) => format!(in alloc; "{code} script {place}"),
-        Status::Data(stop) => data_end(alloc, code, stop),
-        Status::Limit(kind) => format!(in alloc; "{code} limit {kind:?}"),
-        Status::Source(name) => {
-            let name = name.as_str();
-            format!(in alloc; "{code} source {name}")
-        }
-        Status::Sink => format!(in alloc; "{code} sink"),
-        Status::NoMemory => format!(in alloc; "{code} no memory"),
-    }
-}
-
-fn data_end(alloc: Global, code: u8, stop: &DataStop) -> Result<String, AllocError> {
-    let file = stop.file.as_str();
-    let column = match &stop.column {
-        Some(column) => column.as_str(),
-        None => "-",
-    };
-    match stop.stop {
-        RowStop::Header(_) => format!(in alloc; "{code} {file}: {column} missing"),
-        RowStop::Shape(row) => format!(in alloc; "{code} {file}: row {row} shape"),
-        RowStop::Cell { row, .. } => format!(in alloc; "{code} {file}: row {row} {column}"),
-        RowStop::Line(line) => format!(in alloc; "{code} {file}: line {line}"),
-    }
-}
-
-// Runs `run s.gx` over this script and this file `ages.csv`: what was written, and the end.
-fn outcome(
-    alloc: Global,
-    script: &str,
-    data: &str,
-    faults: Faults,
-) -> Result<(String, String), Fail> {
-    let words = words_of(alloc, &["run", "s.gx"])?;
-    let script = Vec::from_slice(alloc, script.as_bytes())?;
-    let data = Vec::from_slice(alloc, data.as_bytes())?;
-    let mut files = files_of(alloc, script, data, 7, faults.read)?;
-    let pieces = pieces_of(alloc, faults.piece)?;
-    let mut out = MemSink::of(alloc, pieces, list_of(alloc, faults.write)?, 100)?;
-    let mut err = MemSink::of(alloc, Vec::new(alloc), Vec::new(alloc), 0)?;
-    let status = run(alloc, words.as_slice(), &mut files, &mut out, &mut err);
-    let written = String::from_str(alloc, str::from_utf8(out.bytes())?)?;
-    Ok((written, end_of(alloc, &status)?))
-}
+use support::{AGES, CONFIGS, Faults, NONE, assert_runs, outcome_of, outcome_over};
 
 #[test]
 fn tables_of_one_column(rt: HostRuntime) -> Result<(), Fail> {
@@ -129,7 +15,7 @@ fn tables_of_one_column(rt: HostRuntime) -> Result<(), Fail> {
         // The first row of a repeated identifier is kept, and rows are ordered by identifier.
         ("id,age\n3,30\n1,25\n1,26\n", "id,age\n1,25\n3,30\n", "0"),
         ("id,age\n", "id,age\n", "0"),
-        // The first refused place.
+        // The first refused position.
         ("id,age\n1,x\n", "", "1 ages.csv: row 1 age"),
         ("id,age\n1,2\ny,3\n", "", "1 ages.csv: row 2 id"),
         ("id,age\n3\n", "", "1 ages.csv: row 1 shape"),
@@ -154,9 +40,7 @@ fn tables_of_one_column(rt: HostRuntime) -> Result<(), Fail> {
         ),
     ];
     for (data, out, end) in cases {
-        let (written, ended) = outcome(rt.alloc(), AGES, data, NONE)?;
-        assert_eq!(rt; written.as_str(), out, "over {data:?}");
-        assert_eq!(rt; ended.as_str(), end, "over {data:?}");
+        assert_runs(&rt, rt.alloc(), AGES, data, NONE, out, end)?;
     }
     Ok(())
 }
@@ -174,9 +58,7 @@ fn other_scripts(rt: HostRuntime) -> Result<(), Fail> {
         ("print table a;", "id,age\n", "", "1 script 0"),
     ];
     for (script, data, out, end) in cases {
-        let (written, ended) = outcome(rt.alloc(), script, data, NONE)?;
-        assert_eq!(rt; written.as_str(), out, "of {script}");
-        assert_eq!(rt; ended.as_str(), end, "of {script}");
+        assert_runs(&rt, rt.alloc(), script, data, NONE, out, end)?;
     }
     Ok(())
 }
@@ -192,69 +74,55 @@ fn failing_devices(rt: HostRuntime) -> Result<(), Fail> {
     ];
     for (read, write, piece, out, end) in cases {
         let faults = Faults { read, write, piece };
-        let (written, ended) = outcome(rt.alloc(), AGES, data, faults)?;
-        assert_eq!(rt; written.as_str(), out);
-        assert_eq!(rt; ended.as_str(), end);
+        assert_runs(&rt, rt.alloc(), AGES, data, faults, out, end)?;
     }
     Ok(())
 }
 
-// Runs these words over no files.
-fn end_of_words(alloc: Global, words: &[&str]) -> Result<String, Fail> {
-    let words = words_of(alloc, words)?;
-    let mut files = MemFiles::of(Vec::new(alloc), 1, Vec::new(alloc));
-    let mut out = MemSink::of(alloc, Vec::new(alloc), Vec::new(alloc), 0)?;
-    let mut err = MemSink::of(alloc, Vec::new(alloc), Vec::new(alloc), 0)?;
-    let status = run(alloc, words.as_slice(), &mut files, &mut out, &mut err);
-    Ok(end_of(alloc, &status)?)
-}
-
 #[test]
-fn other_words_are_no_command(rt: HostRuntime) -> Result<(), Fail> {
-    let alloc = rt.alloc();
-    assert_eq!(rt; end_of_words(alloc, &[])?.as_str(), "2 usage");
-    assert_eq!(rt; end_of_words(alloc, &["run"])?.as_str(), "2 usage");
-    assert_eq!(rt; end_of_words(alloc, &["Run", "s.gx"])?.as_str(), "2 usage");
-    assert_eq!(rt;
-        end_of_words(alloc, &["run", "s.gx", "t.gx"])?.as_str(),
-        "2 usage"
-    );
-    assert_eq!(rt;
-        end_of_words(alloc, &["run", "s.gx"])?.as_str(),
-        "4 source s.gx"
-    );
+fn other_args_are_a_usage_error(rt: HostRuntime) -> Result<(), Fail> {
+    let cases = [
+        ([].as_slice(), "2 usage"),
+        (["run"].as_slice(), "2 usage"),
+        (["Run", "s.gx"].as_slice(), "2 usage"),
+        (["run", "s.gx", "t.gx"].as_slice(), "2 usage"),
+        (["run", "s.gx"].as_slice(), "4 source s.gx"),
+    ];
+    for (args, end) in cases {
+        assert_ends(&rt, rt.alloc(), args, end)?;
+    }
     Ok(())
 }
 
-// `front`, then `piece` as often as `times` says.
-fn repeated(alloc: Global, front: &str, piece: &str, times: usize) -> Result<Vec<u8>, AllocError> {
-    let mut text = Vec::from_slice(alloc, front.as_bytes())?;
+// Stops the test unless a run with these arguments over no files ends with `end`.
+fn assert_ends(rt: &impl Abort, alloc: Global, args: &[&str], end: &str) -> Result<(), Fail> {
+    for config in CONFIGS {
+        let mut files = MemFiles::of(Vec::new(alloc), 1, Vec::new(alloc));
+        let outcome = outcome_over(alloc, args, &mut files, NONE)?;
+        assert_eq!(rt; outcome.end.as_str(), end, "{config:?}");
+    }
+    Ok(())
+}
+
+// `start`, then `piece` as often as `times` says.
+fn repeated(alloc: Global, start: &str, piece: &str, times: usize) -> Result<Vec<u8>, AllocError> {
+    let mut text = Vec::from_slice(alloc, start.as_bytes())?;
     for _ in 0..times {
         text.extend_from_slice(piece.as_bytes())?;
     }
     Ok(text)
 }
 
-// `front`, then this byte as often as `times` says.
-fn padded(alloc: Global, front: &str, byte: u8, times: usize) -> Result<Vec<u8>, AllocError> {
-    let mut text = Vec::from_slice(alloc, front.as_bytes())?;
+// `start`, then this byte as often as `times` says.
+fn padded(alloc: Global, start: &str, byte: u8, times: usize) -> Result<Vec<u8>, AllocError> {
+    let mut text = Vec::from_slice(alloc, start.as_bytes())?;
     let padding = vec![in alloc; byte; times]?;
     text.extend_from_slice(padding.as_slice())?;
     Ok(text)
 }
 
-// Runs a script over a data file, both of bytes.
-fn end_of_files(alloc: Global, script: Vec<u8>, data: Vec<u8>) -> Result<String, Fail> {
-    let words = words_of(alloc, &["run", "s.gx"])?;
-    let mut files = files_of(alloc, script, data, 1_048_576, None)?;
-    let mut out = MemSink::of(alloc, Vec::new(alloc), Vec::new(alloc), 100)?;
-    let mut err = MemSink::of(alloc, Vec::new(alloc), Vec::new(alloc), 0)?;
-    let status = run(alloc, words.as_slice(), &mut files, &mut out, &mut err);
-    Ok(end_of(alloc, &status)?)
-}
-
 #[test]
-fn limits_stand_at_their_numbers(rt: HostRuntime) -> Result<(), Fail> {
+fn limits_are_at_their_numbers(rt: HostRuntime) -> Result<(), Fail> {
     let alloc = rt.alloc();
     let cases = [
         // The script's bytes, the file's bytes, and the file's rows, each at its limit and past it.
@@ -266,12 +134,29 @@ fn limits_stand_at_their_numbers(rt: HostRuntime) -> Result<(), Fail> {
         (0, 0, 500_001, "3 limit FileRows"),
     ];
     for (spaces, header_bytes, rows, end) in cases {
+        assert_limit(&rt, alloc, spaces, header_bytes, rows, end)?;
+    }
+    Ok(())
+}
+
+// Stops the test unless a run ends with `end` whose script has so many spaces after it, and whose
+// data file has so many bytes more in its header or, if that is 0, so many rows.
+fn assert_limit(
+    rt: &impl Abort,
+    alloc: Global,
+    spaces: usize,
+    header_bytes: usize,
+    rows: usize,
+    end: &str,
+) -> Result<(), Fail> {
+    for config in CONFIGS {
         let script = padded(alloc, AGES, b' ', spaces)?;
         let data = match header_bytes {
             0 => repeated(alloc, "id,age\n", "1,2\n", rows)?,
             _ => padded(alloc, "id,age,", b'x', header_bytes)?,
         };
-        assert_eq!(rt; end_of_files(alloc, script, data)?.as_str(), end);
+        let outcome = outcome_of(alloc, script, data, 1_048_576, NONE)?;
+        assert_eq!(rt; outcome.end.as_str(), end, "{config:?}");
     }
     Ok(())
 }

@@ -9,4 +9,4 @@ returns-in-Ok c = cc (c.in-Ok.ensures.cases.0)
 
 pub returns-in-Err : goal.returns-in-Err
 unfolding int_of
-returns-in-Err c = rw (← c.cut.ensures) (sym (number_of-not_utf8 c.cut.result.now c.in-Err.ensures.cases.0))
+returns-in-Err c = rw (← c.trim.ensures) (sym (number_of-not_utf8 c.trim.result.now c.in-Err.ensures.cases.0))

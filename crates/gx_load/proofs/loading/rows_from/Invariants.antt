@@ -1,12 +1,12 @@
 use Rattle.std.proofs.Common.{◌≡◌, ◌≤◌, length}
-use Rattle.gx_rows.specs.Steps.{with_front}
+use Rattle.gx_rows.specs.Results.{try_append}
 use Rattle.gx_load.specs.Loading.{rows_from}
 use Rattle.gx_load.proofs.loading.rows_from.Given as goal
 
 abbrev pub invariant-rows : goal.invariant-rows
 invariant-rows l = record {
-  so_far : with_front l.rows.items (rows_from l.header.keys l.header.width l.header.places.items l.row l.records)
-      ≡ rows_from l.header.keys l.header.width l.header.places.items 1 l.fn.records;
+  so_far : try_append l.rows.items (rows_from l.header.keys l.header.width l.header.positions.items l.row l.records)
+      ≡ rows_from l.header.keys l.header.width l.header.positions.items 1 l.fn.records;
   few : l.row ≤ 500001;
 }
 

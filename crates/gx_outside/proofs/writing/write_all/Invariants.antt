@@ -5,8 +5,8 @@ use Rattle.gx_outside.proofs.writing.write_all.Given as goal
 abbrev pub invariant-loop-done : goal.invariant-loop-done
 invariant-loop-done g l = record {
   within : l.done ≤ length l.text;
-  told : IsSome (g.S.Sink.written l.sink) ↔ IsSome (g.S.Sink.written l.fn.sink);
-  later : g.S.Sink.faults l.fn.sink ≤ g.S.Sink.faults l.sink;
+  known : IsSome (g.S.Sink.written l.sink) ↔ IsSome (g.S.Sink.written l.fn.sink);
+  faults : g.S.Sink.faults l.fn.sink ≤ g.S.Sink.faults l.sink;
   so_far : Appends (g.S.Sink.written l.fn.sink) (g.S.Sink.written l.sink) (take l.done l.text);
 }
 

@@ -1,4 +1,4 @@
-use Rattle.gx_load.proofs.Taken.{took}
+use Rattle.gx_load.proofs.NextRecord.{took}
 use Rattle.gx_load.proofs.records.Records.take.Goals as goal
 
 pub invariant_of-self-2 : goal.invariant_of-self-2

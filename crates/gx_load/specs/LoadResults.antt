@@ -1,0 +1,11 @@
+-- The result of loading, beside the result that is defined.
+use Rattle.std.specs.Prelude.{◌≡◌, Result, Ok, Err, ⊤}
+use Rattle.gx_load.specs.declared.load_stop.LoadStop.{LoadStop}
+use Rattle.gx_load.specs.declared.load_stop.LoadStop.TheVariants as load_stop
+
+-- the result, seen by `view`, is the defined one; any call may return `NoMemory` instead
+abbrev pub Gives : {A B : Type 0} → (A → B) → Result A LoadStop → Result B LoadStop → Type 0
+Gives view (Ok x) defined = defined ≡ Ok (view x)
+Gives view (Err load_stop.NoMemory) defined = ⊤
+Gives view (Err (load_stop.Data stop)) defined = defined ≡ Err (load_stop.Data stop)
+Gives view (Err load_stop.TooManyRows) defined = defined ≡ Err load_stop.TooManyRows
