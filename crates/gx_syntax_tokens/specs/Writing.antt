@@ -13,22 +13,27 @@ pub record WriterState : Type 0 where
   pub text : List ℕ
   pub last : Spacing
 
--- a text that begins with the old one
-pub record Extends (old new : List ℕ) : Type 0 where
+-- a text that begins with another one
+pub record BeginsWith (start text : List ℕ) : Type 0 where
   pub added : List ℕ
-  pub appended : new ≡ old ++ added
+  pub appended : text ≡ start ++ added
 
--- for `using`: they prove that a function which writes by such calls extends its text
-pub extends_equal : (old new : List ℕ) → new ≡ old → Extends old new
-extends_equal old new same = record { added = []; appended = same ∙ sym (append-nil old) }
+-- the new text begins with the old one, and so with each text that the old one begins with: in this
+-- form a function that calls writers in order extends its text without a proof
+abbrev pub Extends : List ℕ → List ℕ → Type 0
+Extends old new = (start : List ℕ) → BeginsWith start old → BeginsWith start new
 
-pub extends_append : (old new added : List ℕ) → new ≡ old ++ added → Extends old new
-extends_append old new added same = record { added = added; appended = same }
+pub extends-begins : (old new : List ℕ) → Extends old new → BeginsWith old new
+extends-begins old new extends = extends old (record { added = []; appended = sym (append-nil old) })
 
-pub extends_trans : (old mid new : List ℕ) → Extends old mid → Extends mid new → Extends old new
-extends_trans old mid new first second = record {
-  added = first.added ++ second.added;
-  appended = second.appended ∙ ap (λ l. l ++ second.added) first.appended ∙ append_assoc old first.added second.added;
+-- for `using`, at a function that appends to a text itself
+pub begins_equal : (start old new : List ℕ) → new ≡ old → BeginsWith start old → BeginsWith start new
+begins_equal start old new same begins = record { added = begins.added; appended = same ∙ begins.appended }
+
+pub begins_append : (start old new added : List ℕ) → new ≡ old ++ added → BeginsWith start old → BeginsWith start new
+begins_append start old new added same begins = record {
+  added = begins.added ++ added;
+  appended = same ∙ ap (λ l. l ++ added) begins.appended ∙ append_assoc start begins.added added;
 }
 
 -- how the next token joins a piece

@@ -2,7 +2,7 @@
 //!
 //! It sees bytes alone: neither tokens nor the spaces between them. A new escape is added here, in
 //! `unescaping.rt`, and in `escaped_byte`, `is_escape` and `escape_value` of `specs/`.
-#![tactic(auto, using(crate::specs::Writing::extends_equal, crate::specs::Writing::extends_append, crate::specs::Writing::extends_trans))]
+#![tactic(auto, using(crate::specs::Writing::begins_equal, crate::specs::Writing::begins_append))]
 
 ghost use Rattle.std.specs.Prelude.{◌≡◌, ◌++◌, ◌∷◌, [], OnOk, string_bytes, drop, take_while, false};
 ghost use Rattle.std.specs.List.{prefix_len};

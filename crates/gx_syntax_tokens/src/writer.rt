@@ -5,7 +5,7 @@
 //! it: then change `symbol_separator` or `symbol`, and `attaches_left` or `attaches_right` and
 //! `spacing_after` of `specs/`. A new escape goes into `escaping.rt`. There are no limits here: what a
 //! text may have is the caller's part.
-#![tactic(auto, using(crate::specs::Writing::extends_equal, crate::specs::Writing::extends_append, crate::specs::Writing::extends_trans))]
+#![tactic(auto, using(crate::specs::Writing::begins_equal, crate::specs::Writing::begins_append))]
 
 ghost use Rattle.std.specs.Prelude.{◌≡◌, [], IfOk, OnOk};
 ghost use Rattle.gx_syntax_tokens.specs.SpacedText as pieces;

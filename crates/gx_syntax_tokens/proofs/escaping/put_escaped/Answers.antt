@@ -3,7 +3,7 @@ use Rattle.std.proofs.Common.{◌≡◌, ◌∙◌, ◌++◌, ◌<◌, ap, arith
 use Rattle.std.proofs.lemmas.Str.{IsCharBoundary-after_ascii}
 use Rattle.gx_syntax_tokens.specs.Scanning.{is_unescaped_byte}
 use Rattle.gx_syntax_tokens.specs.SpacedText.{escaped_byte, escaped_text}
-use Rattle.gx_syntax_tokens.specs.Writing.{extends_append, extends_trans}
+use Rattle.gx_syntax_tokens.specs.Writing.{begins_append}
 use Rattle.gx_syntax_tokens.proofs.QuoteLemmas.{escaped-first, escaped-keeps, special-ascii}
 use Rattle.gx_syntax_tokens.proofs.RunLemmas.{run-done, run-end, run-more}
 use Rattle.gx_syntax_tokens.proofs.escaping.put_escaped.Goals as goal
@@ -40,6 +40,6 @@ runs-preserved c =
     record {
       so_far = rw (more, plain, rest) (run-more is_unescaped_byte escaped_text escaped-keeps (string_bytes c.runs.out) c.runs.rest.now _ c.split_plain.result.0.now special c.escape_of.result.now (drop 1 special)
           c.runs.invariant.so_far c.split_plain.ensures.plain c.split_plain.ensures.rest written);
-      extends = extends_trans _ _ _ c.runs.invariant.extends (extends_trans _ _ _ (extends_append _ _ _ plain) (extends_append _ _ _ more));
+      extends = λ start begins. begins_append _ _ _ _ more (begins_append _ _ _ _ plain (c.runs.invariant.extends start begins));
       text = search rules;
     }
