@@ -4,7 +4,7 @@
 -- language says which tokens spell which value. To add a combinator, define it beside the language that it parses,
 -- and prove in specs/ExactParsers.antt that it is exact if its parts are: parsers that are put together from exact
 -- ones then need no proof of their own.
-use Rattle.std.specs.Prelude.{◌≡◌, ℕ, zero, suc, Bool, true, false, if◌then◌else◌, ◌||◌, ◌⊎◌, Option, Some, None, Result, Ok, Err, List, [], ◌∷◌, ◌++◌, length}
+use Rattle.std.specs.Prelude.{◌≡◌, ℕ, zero, suc, Bool, true, false, if◌then◌else◌, ◌⊎◌, Option, Some, None, Result, Ok, Err, List, [], ◌∷◌, ◌++◌, length}
 
 abbrev pub Parser : Type 0 → Type 0 → Type 0
 Parser T A = List T → Result (A × List T) (List T)

@@ -3,7 +3,7 @@
 -- These are the definitions of the private functions of src/stack.rt and src/steps.rt. Crates above cite
 -- specs/Expressions.antt, which says what is parsed, and not how. A new operator needs no change here. A new kind of
 -- operand needs a branch in `on_atom` or `after_word`, and a state if it has several tokens.
-use Rattle.std.specs.Prelude.{ℕ, Bool, true, false, nat_le, ◌||◌, if◌then◌else◌, Option, Some, None, List, [], ◌∷◌, ◌++◌, Result, Ok, Err, codes, bytes_eq}
+use Rattle.std.specs.Prelude.{◌≡◌, ℕ, true, false, nat_le, if◌then◌else◌, Option, Some, None, List, [], ◌∷◌, ◌++◌, Result, Ok, Err, codes, bytes_eq}
 use Rattle.gx_syntax_tokens.specs.Terminals.{Terminal, word, number, quoted, symbol, is_symbol}
 use Rattle.gx_syntax_tokens.specs.declared.symbol.Symbol.TheVariants as symbols
 use Rattle.gx_syntax_exprs.specs.Operators.{operator, not_word}
@@ -47,6 +47,11 @@ pending_at_least k [] = None
 pending_at_least k (frames.Operator w ∷ st) = if nat_le k (pending_precedence w) then Some (w, st) else None
 pending_at_least k (frames.Paren ∷ st) = None
 pending_at_least k (frames.Call f xs ∷ st) = None
+
+-- the innermost operation is removed, if its level is at least k
+abbrev pub PopsPending : ℕ → List Frame → Option Pending → List Frame → Type 0
+PopsPending k before None after = (pending_at_least k before ≡ None) × (after ≡ before)
+PopsPending k before (Some w) after = pending_at_least k before ≡ Some (w, after)
 
 -- the operations of level k and more that end with x, applied
 abbrev pub reduce : ℕ → Expr → List Frame → Expr × List Frame

@@ -1,5 +1,7 @@
 -- What a step of the parser returns.
-use Rattle.std.specs.Prelude.{List}
+use Rattle.std.specs.Prelude.{◌≡◌, List, Result, Ok, Err}
+use Rattle.gx_rows.specs.declared.no_memory.NoMemory.{NoMemory}
+use Rattle.gx_syntax_tokens.specs.Terminals.{Terminal}
 use Rattle.gx_syntax_exprs.specs.PrecedenceParser.{StepOutcome, continues, done, rejects}
 use Rattle.gx_syntax_exprs.specs.declared.stack.Frame.{Frame}
 use Rattle.gx_syntax_exprs.specs.declared.steps.Step.{Step}
@@ -10,3 +12,13 @@ abbrev pub outcome_of : Step → List Frame → StepOutcome
 outcome_of (Continue s) st = continues s st
 outcome_of (Done x) st = done x
 outcome_of Reject st = rejects
+
+-- a step that did not run out of memory has this outcome
+abbrev pub Steps : Result Step NoMemory → List Frame → StepOutcome → Type 0
+Steps (Ok step) st outcome = outcome_of step st ≡ outcome
+Steps (Err e) st outcome = Unit {0}
+
+-- and these tokens remain
+abbrev pub StepsOver : Result Step NoMemory → List Frame → List Terminal → StepOutcome × List Terminal → Type 0
+StepsOver (Ok step) st rest outcome = (outcome_of step st, rest) ≡ outcome
+StepsOver (Err e) st rest outcome = Unit {0}

@@ -1,11 +1,11 @@
-//! One token of an expression.
+//! One token of an expression: what it does to the state and the stack of the parser. A new kind of
+//! operand is a branch of `on_atom` or `after_word`, with its definition in specs/PrecedenceParser.antt.
 
 ghost use Rattle.std.specs.Prelude.{◌≡◌, ◌∷◌, ◌≤◌, [], None, Some, MatchOption, IfOk, option_map, true, false, bytes_eq};
 ghost use Rattle.gx_syntax_tokens.specs.TokenTexts.{terminal_of};
 ghost use Rattle.gx_syntax_exprs.specs.Operators.{not_word};
-ghost use Rattle.gx_syntax_exprs.specs.Grammar as grammar;
-ghost use Rattle.gx_syntax_exprs.specs.PrecedenceParser as reading;
-ghost use Rattle.gx_syntax_exprs.specs.StepOutcomes.{outcome_of};
+ghost use Rattle.gx_syntax_exprs.specs.PrecedenceParser as parser;
+ghost use Rattle.gx_syntax_exprs.specs.StepOutcomes.{Steps, outcome_of};
 
 use crate::operators::operator;
 use crate::stack::{Frame, Pending, Stack, reduce};
@@ -15,18 +15,18 @@ use gx_syntax_tree::{BinaryOp, Expr, UnaryOp};
 use sqlite_items::Items;
 use std::alloc::Global;
 
-/// Where in an expression a token stands.
+/// What the token before the next one was.
 #[derive(Drop)]
 pub(crate) enum State {
-    /// Where an operand is wanted.
+    /// An operand is expected.
     ExpectOperand,
-    /// Behind the parenthesis of a call.
+    /// The open parenthesis of a call.
     AfterCallParen,
-    /// Behind a word, where an operand was wanted.
+    /// A word at the start of an operand.
     AfterWord(Text),
-    /// Behind that word and a dot.
+    /// That word and a dot.
     AfterDot(Text),
-    /// Behind an operand.
+    /// The end of an operand.
     AfterOperand(Expr),
 }
 
@@ -47,9 +47,9 @@ fn is_not(word: &str) -> bool
     word == "not"
 }
 
-/// The constant that a word is where it stands alone.
+/// The literal that a word is, if it is not a name.
 fn constant_word(word: &str) -> Option<Expr>
-    ensures { result ≡ reading.constant_word word.now }
+    ensures { result ≡ parser.constant_word word.now }
 {
     if word == "true" {
         Some(Expr::Truth(true))
@@ -62,9 +62,9 @@ fn constant_word(word: &str) -> Option<Expr>
     }
 }
 
-/// Behind a whole operand: `)`.
+/// `)` after a whole operand.
 fn on_close_paren(stack: &mut Stack, x: Expr) -> Result<Step, NoMemory>
-    ensures { IfOk result (λ step. outcome_of step stack.new ≡ reading.on_close_paren x stack.old) }
+    ensures { Steps result stack.new (parser.on_close_paren x stack.old) }
 {
     match stack.pop() {
         None => Ok(Step::Done(x)),
@@ -77,9 +77,9 @@ fn on_close_paren(stack: &mut Stack, x: Expr) -> Result<Step, NoMemory>
     }
 }
 
-/// Behind a whole operand: `,`.
+/// `,` after a whole operand.
 fn on_comma(stack: &mut Stack, x: Expr) -> Result<Step, NoMemory>
-    ensures { IfOk result (λ step. outcome_of step stack.new ≡ reading.on_comma x stack.old) }
+    ensures { Steps result stack.new (parser.on_comma x stack.old) }
 {
     match stack.pop() {
         None => Ok(Step::Done(x)),
@@ -93,9 +93,9 @@ fn on_comma(stack: &mut Stack, x: Expr) -> Result<Step, NoMemory>
     }
 }
 
-/// Behind a whole operand: the end, or a token that no expression goes on with.
+/// The end, or a token with which no expression goes on, after a whole operand.
 fn on_end(stack: &mut Stack, x: Expr) -> Step
-    ensures { outcome_of result stack.new ≡ reading.on_end x stack.old }
+    ensures { outcome_of result stack.new ≡ parser.on_end x stack.old }
 {
     match stack.pop() {
         None => Step::Done(x),
@@ -103,9 +103,9 @@ fn on_end(stack: &mut Stack, x: Expr) -> Step
     }
 }
 
-/// Behind a whole operand: an operator.
+/// An infix operator after a whole operand.
 fn on_operator(stack: &mut Stack, operator: BinaryOp, x: Expr) -> Result<Step, NoMemory>
-    ensures { IfOk result (λ step. outcome_of step stack.new ≡ reading.on_operator operator x stack.old) }
+    ensures { Steps result stack.new (parser.on_operator operator x stack.old) }
 {
     if stack.min_precedence() <= operator.precedence() {
         stack.push(Frame::Operator(Pending::Infix(x, operator)))?;
@@ -115,9 +115,9 @@ fn on_operator(stack: &mut Stack, operator: BinaryOp, x: Expr) -> Result<Step, N
     }
 }
 
-/// Behind a whole operand: a token that is no operator.
+/// A token that is not an operator, after a whole operand.
 fn on_delimiter(stack: &mut Stack, token: TokenValue<'_>, x: Expr) -> Result<Step, NoMemory>
-    ensures { IfOk result (λ step. outcome_of step stack.new ≡ reading.on_delimiter (terminal_of token.entry) x stack.old) }
+    ensures { Steps result stack.new (parser.on_delimiter (terminal_of token.entry) x stack.old) }
 {
     if token.is(Symbol::CloseParen) {
         on_close_paren(stack, x)
@@ -128,14 +128,14 @@ fn on_delimiter(stack: &mut Stack, token: TokenValue<'_>, x: Expr) -> Result<Ste
     }
 }
 
-/// Behind an operand: a token.
+/// A token after an operand.
 fn on_other(
     alloc: Global,
     stack: &mut Stack,
     x: Expr,
     token: TokenValue<'_>,
 ) -> Result<Step, NoMemory>
-    ensures { IfOk result (λ step. outcome_of step stack.new ≡ reading.after_operand x stack.old (Some (terminal_of token.entry))) }
+    ensures { Steps result stack.new (parser.after_operand x stack.old (Some (terminal_of token.entry))) }
 {
     match operator(token) {
         Some(operator) => {
@@ -149,14 +149,14 @@ fn on_other(
     }
 }
 
-/// Behind an operand: a token, or the end.
+/// A token, or the end, after an operand.
 fn after_operand(
     alloc: Global,
     stack: &mut Stack,
     x: Expr,
     next: Option<TokenValue<'_>>,
 ) -> Result<Step, NoMemory>
-    ensures { IfOk result (λ step. outcome_of step stack.new ≡ reading.after_operand x stack.old (option_map terminal_of next.entry)) }
+    ensures { Steps result stack.new (parser.after_operand x stack.old (option_map terminal_of next.entry)) }
 {
     match next {
         Some(token) => on_other(alloc, stack, x, token),
@@ -167,9 +167,9 @@ fn after_operand(
     }
 }
 
-/// Where an operand is wanted: a token that is no symbol.
+/// A token that is not a symbol, at the start of an operand.
 fn on_atom(alloc: Global, token: TokenValue<'_>, stack: &mut Stack) -> Result<Step, NoMemory>
-    ensures { IfOk result (λ step. outcome_of step stack.new ≡ reading.on_atom (terminal_of token.entry) stack.old) }
+    ensures { Steps result stack.new (parser.on_atom (terminal_of token.entry) stack.old) }
 {
     match token {
         TokenValue::Word(word) => Ok(Step::Continue(State::AfterWord(Text::of(alloc, word)?))),
@@ -187,13 +187,13 @@ fn on_atom(alloc: Global, token: TokenValue<'_>, stack: &mut Stack) -> Result<St
     }
 }
 
-/// Where an operand is wanted.
+/// The first token of an operand.
 fn on_operand_start(
     alloc: Global,
     token: TokenValue<'_>,
     stack: &mut Stack,
 ) -> Result<Step, NoMemory>
-    ensures { IfOk result (λ step. outcome_of step stack.new ≡ reading.on_operand_start (terminal_of token.entry) stack.old) }
+    ensures { Steps result stack.new (parser.on_operand_start (terminal_of token.entry) stack.old) }
 {
     if token.is(Symbol::OpenParen) {
         stack.push(Frame::Paren)?;
@@ -209,9 +209,9 @@ fn on_operand_start(
     }
 }
 
-/// Behind the parenthesis of a call: `)`.
+/// `)` after the open parenthesis of a call.
 fn on_empty_call(stack: &mut Stack) -> Step
-    ensures { outcome_of result stack.new ≡ reading.on_empty_call stack.old }
+    ensures { outcome_of result stack.new ≡ parser.on_empty_call stack.old }
 {
     match stack.pop() {
         Some(Frame::Call(name, values)) => Step::Continue(State::AfterOperand(Expr::Call(
@@ -223,14 +223,14 @@ fn on_empty_call(stack: &mut Stack) -> Step
     }
 }
 
-/// Behind a word that is a constant, or nothing, where it stands alone.
+/// After a word that is a literal, or refused.
 fn on_constant_word(
     alloc: Global,
     stack: &mut Stack,
     word: &str,
     next: Option<TokenValue<'_>>,
 ) -> Result<Step, NoMemory>
-    ensures { IfOk result (λ step. outcome_of step stack.new ≡ reading.on_constant_word (reading.constant_word word.now) stack.old (option_map terminal_of next.entry)) }
+    ensures { Steps result stack.new (parser.on_constant_word (parser.constant_word word.now) stack.old (option_map terminal_of next.entry)) }
 {
     match constant_word(word) {
         Some(x) => after_operand(alloc, stack, x, next),
@@ -238,9 +238,9 @@ fn on_constant_word(
     }
 }
 
-/// Behind the word `not`, where no `.` follows.
+/// A token other than `.` after the word `not`.
 fn on_not(alloc: Global, stack: &mut Stack, token: TokenValue<'_>) -> Result<Step, NoMemory>
-    ensures { IfOk result (λ step. outcome_of step stack.new ≡ reading.on_not stack.old (Some (terminal_of token.entry))) }
+    ensures { Steps result stack.new (parser.on_not stack.old (Some (terminal_of token.entry))) }
 {
     if stack.min_precedence() > 3 {
         return Ok(Step::Reject);
@@ -249,14 +249,14 @@ fn on_not(alloc: Global, stack: &mut Stack, token: TokenValue<'_>) -> Result<Ste
     on_operand_start(alloc, token, stack)
 }
 
-/// Behind a word: a token.
+/// A token after a word.
 fn after_word(
     alloc: Global,
     stack: &mut Stack,
     word: Text,
     token: TokenValue<'_>,
 ) -> Result<Step, NoMemory>
-    ensures { IfOk result (λ step. outcome_of step stack.new ≡ reading.after_word word stack.old (Some (terminal_of token.entry))) }
+    ensures { Steps result stack.new (parser.after_word word stack.old (Some (terminal_of token.entry))) }
 {
     if token.is(Symbol::Dot) {
         Ok(Step::Continue(State::AfterDot(word)))
@@ -270,9 +270,9 @@ fn after_word(
     }
 }
 
-/// Behind a word: the end.
+/// The end after a word.
 fn after_last_word(alloc: Global, stack: &mut Stack, word: &str) -> Result<Step, NoMemory>
-    ensures { IfOk result (λ step. outcome_of step stack.new ≡ reading.after_word word.now stack.old None) }
+    ensures { Steps result stack.new (parser.after_word word.now stack.old None) }
 {
     if is_not(word) {
         Ok(Step::Reject)
@@ -281,14 +281,14 @@ fn after_last_word(alloc: Global, stack: &mut Stack, word: &str) -> Result<Step,
     }
 }
 
-/// Behind a word and a dot.
+/// A token after a word and a dot.
 fn after_dot(
     alloc: Global,
     side: Text,
     token: TokenValue<'_>,
     stack: &mut Stack,
 ) -> Result<Step, NoMemory>
-    ensures { IfOk result (λ step. outcome_of step stack.new ≡ reading.after_dot side stack.old (terminal_of token.entry)) }
+    ensures { Steps result stack.new (parser.after_dot side stack.old (terminal_of token.entry)) }
 {
     match token {
         TokenValue::Word(word) => Ok(Step::Continue(State::AfterOperand(Expr::Column(
@@ -309,7 +309,7 @@ pub(crate) fn transition(
     state: State,
     token: TokenValue<'_>,
 ) -> Result<Step, NoMemory>
-    ensures { IfOk result (λ step. outcome_of step stack.new ≡ reading.transition state stack.old (Some (terminal_of token.entry))) }
+    ensures { Steps result stack.new (parser.transition state stack.old (Some (terminal_of token.entry))) }
 {
     match state {
         State::ExpectOperand => on_operand_start(alloc, token, stack),
@@ -333,7 +333,7 @@ pub(crate) fn transition_at_end(
     stack: &mut Stack,
     state: State,
 ) -> Result<Step, NoMemory>
-    ensures { IfOk result (λ step. outcome_of step stack.new ≡ reading.transition state stack.old None) }
+    ensures { Steps result stack.new (parser.transition state stack.old None) }
 {
     match state {
         State::ExpectOperand => Ok(Step::Reject),
