@@ -1,5 +1,5 @@
-//! The parser of expressions: a loop over the tokens with an explicit stack, so that deep nesting costs
-//! heap and not the machine's stack.
+//! The parser of expressions: a loop over the tokens with an explicit stack, so that deep nesting
+//! costs heap and not the machine's stack.
 
 ghost use Rattle.std.specs.Prelude.{◌≡◌};
 ghost use Rattle.gx_syntax_exprs.specs.StepOutcomes.{StepsOver};

@@ -1,7 +1,7 @@
-//! The stack of what an expression has begun and not ended: operators that wait for an operand, open
-//! parentheses, and calls. Contracts see it as a list with the innermost first.
+//! The stack of what an expression has begun and not ended: operators that wait for an operand,
+//! open parentheses, and calls. Contracts see it as a list with the innermost first.
 
-ghost use Rattle.std.specs.Prelude.{◌≡◌, ◌∷◌, [], None, Some, MatchOption, OnOk, IfOk};
+ghost use Rattle.std.specs.Prelude.{◌≡◌, ◌∷◌, [], OnOk, IfOk};
 ghost use Rattle.gx_syntax_exprs.specs.Grammar.{binary_expr, unary_expr};
 ghost use Rattle.gx_syntax_exprs.specs.PrecedenceParser as parser;
 
@@ -101,7 +101,7 @@ impl Stack {
     }
 
     pub(crate) fn pop(&mut self) -> Option<Frame>
-        ensures { MatchOption result ((self.old ≡ []) × (self.new ≡ [])) (λ frame. self.old ≡ frame ∷ self.new) }
+        ensures { parser.Pops self.old result self.new }
     {
         self.frames.pop()
     }

@@ -1,11 +1,12 @@
 //! One token of an expression: what it does to the state and the stack of the parser. A new kind of
-//! operand is a branch of `on_atom` or `after_word`, with its definition in specs/PrecedenceParser.antt.
+//! operand is a branch of `on_atom` or `after_word`, with its definition in
+//! specs/PrecedenceParser.antt.
 
-ghost use Rattle.std.specs.Prelude.{◌≡◌, ◌∷◌, ◌≤◌, [], None, Some, MatchOption, IfOk, option_map, true, false, bytes_eq};
+ghost use Rattle.std.specs.Prelude.{◌≡◌, None, bytes_eq};
 ghost use Rattle.gx_syntax_tokens.specs.TokenTexts.{terminal_of};
 ghost use Rattle.gx_syntax_exprs.specs.Operators.{not_word};
 ghost use Rattle.gx_syntax_exprs.specs.PrecedenceParser as parser;
-ghost use Rattle.gx_syntax_exprs.specs.StepOutcomes.{Steps, outcome_of};
+ghost use Rattle.gx_syntax_exprs.specs.StepOutcomes.{Steps, next_terminal, outcome_of, terminal_at};
 
 use crate::operators::operator;
 use crate::stack::{Frame, Pending, Stack, reduce};
@@ -41,6 +42,7 @@ pub(crate) enum Step {
     Reject,
 }
 
+/// Whether a word is the operator `not`, if nothing after it says that it is a side.
 fn is_not(word: &str) -> bool
     ensures { result ≡ bytes_eq word.now not_word }
 {
@@ -135,7 +137,7 @@ fn on_other(
     x: Expr,
     token: TokenValue<'_>,
 ) -> Result<Step, NoMemory>
-    ensures { Steps result stack.new (parser.after_operand x stack.old (Some (terminal_of token.entry))) }
+    ensures { Steps result stack.new (parser.after_operand x stack.old (next_terminal token.entry)) }
 {
     match operator(token) {
         Some(operator) => {
@@ -156,7 +158,7 @@ fn after_operand(
     x: Expr,
     next: Option<TokenValue<'_>>,
 ) -> Result<Step, NoMemory>
-    ensures { Steps result stack.new (parser.after_operand x stack.old (option_map terminal_of next.entry)) }
+    ensures { Steps result stack.new (parser.after_operand x stack.old (terminal_at next.entry)) }
 {
     match next {
         Some(token) => on_other(alloc, stack, x, token),
@@ -224,13 +226,13 @@ fn on_empty_call(stack: &mut Stack) -> Step
 }
 
 /// After a word that is a literal, or refused.
-fn on_constant_word(
+fn on_lone_word(
     alloc: Global,
     stack: &mut Stack,
     word: &str,
     next: Option<TokenValue<'_>>,
 ) -> Result<Step, NoMemory>
-    ensures { Steps result stack.new (parser.on_constant_word (parser.constant_word word.now) stack.old (option_map terminal_of next.entry)) }
+    ensures { Steps result stack.new (parser.on_lone_word word.now stack.old (terminal_at next.entry)) }
 {
     match constant_word(word) {
         Some(x) => after_operand(alloc, stack, x, next),
@@ -240,7 +242,7 @@ fn on_constant_word(
 
 /// A token other than `.` after the word `not`.
 fn on_not(alloc: Global, stack: &mut Stack, token: TokenValue<'_>) -> Result<Step, NoMemory>
-    ensures { Steps result stack.new (parser.on_not stack.old (Some (terminal_of token.entry))) }
+    ensures { Steps result stack.new (parser.on_not stack.old (next_terminal token.entry)) }
 {
     if stack.min_precedence() > 3 {
         return Ok(Step::Reject);
@@ -256,7 +258,7 @@ fn after_word(
     word: Text,
     token: TokenValue<'_>,
 ) -> Result<Step, NoMemory>
-    ensures { Steps result stack.new (parser.after_word word stack.old (Some (terminal_of token.entry))) }
+    ensures { Steps result stack.new (parser.after_word word stack.old (next_terminal token.entry)) }
 {
     if token.is(Symbol::Dot) {
         Ok(Step::Continue(State::AfterDot(word)))
@@ -266,7 +268,7 @@ fn after_word(
         stack.push(Frame::Call(word, Items::new(alloc)))?;
         Ok(Step::Continue(State::AfterCallParen))
     } else {
-        on_constant_word(alloc, stack, word.as_str(), Some(token))
+        on_lone_word(alloc, stack, word.as_str(), Some(token))
     }
 }
 
@@ -277,7 +279,7 @@ fn after_last_word(alloc: Global, stack: &mut Stack, word: &str) -> Result<Step,
     if is_not(word) {
         Ok(Step::Reject)
     } else {
-        on_constant_word(alloc, stack, word, None)
+        on_lone_word(alloc, stack, word, None)
     }
 }
 
@@ -309,7 +311,7 @@ pub(crate) fn transition(
     state: State,
     token: TokenValue<'_>,
 ) -> Result<Step, NoMemory>
-    ensures { Steps result stack.new (parser.transition state stack.old (Some (terminal_of token.entry))) }
+    ensures { Steps result stack.new (parser.transition state stack.old (next_terminal token.entry)) }
 {
     match state {
         State::ExpectOperand => on_operand_start(alloc, token, stack),
