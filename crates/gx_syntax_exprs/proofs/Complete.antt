@@ -87,9 +87,9 @@ operates o a st ts h = ap (λ r. outcome_then (λ s' st'. parse_from s' st' ts) 
 -- a prefix operator
 enters : (o : UnaryOp) (st : List Frame) (ts : List Terminal) → First ts → min_precedence st ≤ unary_precedence o → parse_from states.ExpectOperand st (prefix_token o ∷ ts) ≡ parse_from states.ExpectOperand (frames.Operator (pending.Prefix o) ∷ st) ts
 unfolding parse_from transition
-enters unary.Neg st ts f h = let test : nat_le (min_precedence st) 7 ≡ true = le-leb (min_precedence st) 7 h in rw test refl
+enters unary.Neg st ts f h = let test : nat_le (min_precedence st) (unary_precedence unary.Neg) ≡ true = le-leb (min_precedence st) (unary_precedence unary.Neg) h in rw test refl
 enters unary.Not st ts f h =
-    let test : nat_le (min_precedence st) 3 ≡ true = le-leb (min_precedence st) 3 h in
+    let test : nat_le (min_precedence st) (unary_precedence unary.Not) ≡ true = le-leb (min_precedence st) (unary_precedence unary.Not) h in
     rw (f.whole, f.no_dot, test) refl
 
 -- a word that is a literal

@@ -6,10 +6,10 @@ use Rattle.std.proofs.lemmas.Slice.Eq.{bytes_eq-Decides}
 use Rattle.gx_syntax_tokens.specs.Terminals.{Terminal, word, number, quoted, symbol, is_symbol, is_symbol-true}
 use Rattle.gx_syntax_tokens.specs.declared.symbol.Symbol.TheVariants as symbols
 use Rattle.gx_syntax_exprs.specs.Operators.{operator, infix_token, prefix_token, not_word}
-use Rattle.gx_syntax_tree.specs.Precedence.{binary_precedence, left_precedence}
+use Rattle.gx_syntax_tree.specs.Precedence.{binary_precedence, left_precedence, unary_precedence}
 use Rattle.gx_syntax_exprs.specs.Grammar.{number_expr, call_expr, Spells, infix_op, prefix_op, int_literal, text_literal, column_ref, call, parenthesized, no_arguments, arguments, SpellsLeading, no_leading, leading, is_call_name, fits_i64, spells_at_looser}
 use Rattle.gx_syntax_exprs.specs.Combinators.{IsViablePrefix, IsSound}
-use Rattle.gx_syntax_exprs.specs.PrecedenceParser.{StepOutcome, continues, done, rejects, pending_precedence, pending_operand_precedence, apply, min_precedence, reduce, constant_word, on_close_paren, on_comma, on_end, on_operator, on_delimiter, on_reduced, after_reduction, after_operand, on_atom, on_operand_start, on_empty_call, on_constant_word, on_not, after_word, after_dot, left_precedence_of, precedence_before, outcome_at_end, outcome_then, transition, parse_from}
+use Rattle.gx_syntax_exprs.specs.PrecedenceParser.{StepOutcome, continues, done, rejects, pending_precedence, pending_operand_precedence, apply, min_precedence, reduce, constant_word, on_close_paren, on_comma, on_end, on_operator, on_delimiter, on_reduced, after_reduction, after_operand, on_atom, on_prefix, on_operand_start, on_empty_call, on_constant_word, on_not, after_word, after_dot, left_precedence_of, precedence_before, outcome_at_end, outcome_then, transition, parse_from}
 use Rattle.gx_syntax_tree.specs.declared.expr.Expr.{Expr}
 use Rattle.gx_syntax_tree.specs.declared.expr.BinaryOp.{BinaryOp}
 use Rattle.gx_syntax_tree.specs.declared.expr.UnaryOp.{UnaryOp}
@@ -204,18 +204,21 @@ justified_atom {st} {p} s (number n) = go (fits_i64 n) refl
     go true e = at_operand s (int_literal n e)
     go false e = viable_operand p s
 
+justified_prefix : {st : List Frame} {p : List Terminal} → IsBuiltBy st p → (o : UnaryOp) (t : Terminal) → t ≡ prefix_token o → IsJustified p (Some t) (on_prefix o st)
+justified_prefix {st} {p} s o t e = go (nat_le (min_precedence st) (unary_precedence o)) refl
+  where
+    go : (c : Bool) → nat_le (min_precedence st) (unary_precedence o) ≡ c → IsJustified p (Some t) (if c then continues states.ExpectOperand (frames.Operator (pending.Prefix o) ∷ st) else rejects)
+    go true h = rw e (at_operand_start (on_pending s (leb-true (min_precedence st) (unary_precedence o) h) (begun_prefix o)))
+    go false h = viable_operand p s
+
 justified_operand_start : {st : List Frame} {p : List Terminal} → IsBuiltBy st p → (t : Terminal) → IsJustified p (Some t) (on_operand_start t st)
 justified_operand_start {st} {p} s t = go (is_symbol symbols.OpenParen t) refl
   where
-    minus : (c : Bool) → is_symbol symbols.Minus t ≡ true → nat_le (min_precedence st) 7 ≡ c → IsJustified p (Some t) (if c then continues states.ExpectOperand (frames.Operator (pending.Prefix unary.Neg) ∷ st) else rejects)
-    minus true e h = rw (is_symbol-true symbols.Minus t e) (at_operand_start (on_pending s (leb-true (min_precedence st) 7 h) (begun_prefix unary.Neg)))
-    minus false e h = viable_operand p s
-
-    next : (c : Bool) → is_symbol symbols.Minus t ≡ c → IsJustified p (Some t) (if c then (if nat_le (min_precedence st) 7 then continues states.ExpectOperand (frames.Operator (pending.Prefix unary.Neg) ∷ st) else rejects) else on_atom t st)
-    next true e = minus (nat_le (min_precedence st) 7) e refl
+    next : (c : Bool) → is_symbol symbols.Minus t ≡ c → IsJustified p (Some t) (if c then on_prefix unary.Neg st else on_atom t st)
+    next true e = justified_prefix s unary.Neg t (is_symbol-true symbols.Minus t e)
     next false e = justified_atom s t
 
-    go : (c : Bool) → is_symbol symbols.OpenParen t ≡ c → IsJustified p (Some t) (if c then continues states.ExpectOperand (frames.Paren ∷ st) else (if is_symbol symbols.Minus t then (if nat_le (min_precedence st) 7 then continues states.ExpectOperand (frames.Operator (pending.Prefix unary.Neg) ∷ st) else rejects) else on_atom t st))
+    go : (c : Bool) → is_symbol symbols.OpenParen t ≡ c → IsJustified p (Some t) (if c then continues states.ExpectOperand (frames.Paren ∷ st) else (if is_symbol symbols.Minus t then on_prefix unary.Neg st else on_atom t st))
     go true e = rw (is_symbol-true symbols.OpenParen t e) (at_operand_start (on_paren s))
     go false e = next (is_symbol symbols.Minus t) refl
 
@@ -227,10 +230,10 @@ justified_lone_word {st} {p} s w t = go (constant_word w) refl
     go (Some x) e = justified_after_operand s (word w ∷ []) x (constant_spells w x e) t
 
 justified_not : {st : List Frame} {p : List Terminal} → IsBuiltBy st p → (w : List ℕ) (t : Terminal) → w ≡ not_word → IsJustified (p ++ word w ∷ []) (Some t) (on_not st (Some t))
-justified_not {st} {p} s w t e = go (nat_le (min_precedence st) 3) refl
+justified_not {st} {p} s w t e = go (nat_le (min_precedence st) (unary_precedence unary.Not)) refl
   where
-    go : (c : Bool) → nat_le (min_precedence st) 3 ≡ c → IsJustified (p ++ word w ∷ []) (Some t) (if c then on_operand_start t (frames.Operator (pending.Prefix unary.Not) ∷ st) else rejects)
-    go true h = rw e (justified_operand_start (on_pending s (leb-true (min_precedence st) 3 h) (begun_prefix unary.Not)) t)
+    go : (c : Bool) → nat_le (min_precedence st) (unary_precedence unary.Not) ≡ c → IsJustified (p ++ word w ∷ []) (Some t) (if c then on_operand_start t (frames.Operator (pending.Prefix unary.Not) ∷ st) else rejects)
+    go true h = rw e (justified_operand_start (on_pending s (leb-true (min_precedence st) (unary_precedence unary.Not) h) (begun_prefix unary.Not)) t)
     go false h = viable_reached (at_word w s)
 
 justified_last_word : {st : List Frame} {p : List Terminal} → IsBuiltBy st p → (w : List ℕ) → IsJustified (p ++ word w ∷ []) None (after_word w st None)
