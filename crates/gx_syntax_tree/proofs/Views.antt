@@ -1,5 +1,5 @@
 -- A statement and its view determine each other.
-use Rattle.std.proofs.Common.{◌≡◌, ◌∷◌, refl}
+use Rattle.std.proofs.Common.{refl}
 use Rattle.gx_syntax_tree.specs.Forms.{IsMadeOfItsView, ViewsWhatItIsMadeOf}
 use Rattle.gx_syntax_tree.specs.declared.keyword.CountTarget.TheVariants as counts
 use Rattle.gx_syntax_tree.specs.declared.keyword.PrintTarget.TheVariants as prints
@@ -12,14 +12,14 @@ made_of_its_view (stmts.Edges name file cs) = refl
 made_of_its_view (stmts.EdgeList name file o) = refl
 made_of_its_view (stmts.Graph name vs es default) = refl
 made_of_its_view (stmts.FromEdges name es row) = refl
+made_of_its_view (stmts.Reverse name g) = refl
+made_of_its_view (stmts.Mask name g by) = refl
+made_of_its_view (stmts.Subgraph name g vs es) = refl
+made_of_its_view (stmts.GroupEdges name g ms) = refl
+made_of_its_view (stmts.Partition name g cut) = refl
 made_of_its_view (stmts.MapVertices name g ss) = refl
 made_of_its_view (stmts.MapEdges name g ss) = refl
 made_of_its_view (stmts.MapTriplets name g ss) = refl
-made_of_its_view (stmts.Subgraph name g vs es) = refl
-made_of_its_view (stmts.Mask name g by) = refl
-made_of_its_view (stmts.Reverse name g) = refl
-made_of_its_view (stmts.GroupEdges name g ms) = refl
-made_of_its_view (stmts.Partition name g cut) = refl
 made_of_its_view (stmts.JoinVertices name g t ss) = refl
 made_of_its_view (stmts.OuterJoin name g t default ss) = refl
 made_of_its_view (stmts.Aggregate name g ss ms) = refl
@@ -48,14 +48,14 @@ views_what_it_is_made_of keywords.Edges v = refl
 views_what_it_is_made_of keywords.EdgeList v = refl
 views_what_it_is_made_of keywords.Graph v = refl
 views_what_it_is_made_of keywords.FromEdges v = refl
+views_what_it_is_made_of keywords.Reverse v = refl
+views_what_it_is_made_of keywords.Mask v = refl
+views_what_it_is_made_of keywords.Subgraph v = refl
+views_what_it_is_made_of keywords.GroupEdges v = refl
+views_what_it_is_made_of keywords.Partition v = refl
 views_what_it_is_made_of keywords.MapVertices v = refl
 views_what_it_is_made_of keywords.MapEdges v = refl
 views_what_it_is_made_of keywords.MapTriplets v = refl
-views_what_it_is_made_of keywords.Subgraph v = refl
-views_what_it_is_made_of keywords.Mask v = refl
-views_what_it_is_made_of keywords.Reverse v = refl
-views_what_it_is_made_of keywords.GroupEdges v = refl
-views_what_it_is_made_of keywords.Partition v = refl
 views_what_it_is_made_of keywords.JoinVertices v = refl
 views_what_it_is_made_of keywords.OuterJoin v = refl
 views_what_it_is_made_of keywords.Aggregate v = refl
