@@ -26,11 +26,11 @@ next_token script at p w k kind is = record {
 }
 
 -- a list of tokens, and then the rest
-abbrev pub with_front : List (ℕ × Terminal) → TokenStream → TokenStream
-with_front front rest = record { tokens = front ++ rest.tokens; ending = rest.ending }
+abbrev pub with_tokens : List (ℕ × Terminal) → TokenStream → TokenStream
+with_tokens front rest = record { tokens = front ++ rest.tokens; ending = rest.ending }
 
 -- the rest is empty
-pub with_front-done : (tokens : List PlacedToken) (end : LexEnd) (now whole : TokenStream) → now ≡ empty_stream (ending_of end) → with_front (map placed_of tokens) now ≡ whole → token_stream_of tokens end ≡ whole
-with_front-done tokens end now whole is so_far =
+pub with_tokens-done : (tokens : List PlacedToken) (end : LexEnd) (now whole : TokenStream) → now ≡ empty_stream (ending_of end) → with_tokens (map placed_of tokens) now ≡ whole → token_stream_of tokens end ≡ whole
+with_tokens-done tokens end now whole is so_far =
     (λ k. record { tokens = sym (append-nil (map placed_of tokens)) k; ending = ending_of end })
-    ∙ ap (with_front (map placed_of tokens)) (sym is) ∙ so_far
+    ∙ ap (with_tokens (map placed_of tokens)) (sym is) ∙ so_far

@@ -74,6 +74,8 @@ value_len_plain raw i h other =
     let plain : (get_or raw i 0 == 92) ≡ false = ne_eqb (get_or raw i 0) 92 other in
     rw (add-one, drop-cons raw i 0, plain) (omega arith)
 
+pub ruleset value_len_steps = (value_len_escape, value_len_backslash, value_len_plain)
+
 -- a byte that is not escaped is written as it is
 pub plain-escaped : (c : ℕ) → is_unescaped_byte c ≡ true → escaped_byte c ≡ c ∷ []
 plain-escaped c h = go (c == 34) (c == 92) (c == 10) (c == 9) (c == 13) h

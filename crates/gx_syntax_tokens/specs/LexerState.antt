@@ -27,7 +27,11 @@ pub record IsNextToken (old new : LexerState) (token : Token) : Type 0 where
 
 -- the result of a call: the next token; or None if the rest is empty and the script ends; or the
 -- refused offset if the rest is empty and ends there. Only a token changes the state.
-abbrev pub ReturnsNextToken : LexerState → LexerState → Result (Option Token) (ℕ × SyntaxKind) → Type 0
+abbrev pub ReturnsNextToken : LexerState → LexerState → Result (Option Token) (ℕ × SyntaxKind)
+    → Type 0
 ReturnsNextToken old new (Ok (Some token)) = IsNextToken old new token
-ReturnsNextToken old new (Ok None) = (old.rest ≡ empty_stream (eof (length old.script))) × (new ≡ old)
-ReturnsNextToken old new (Err refused) = (old.rest ≡ empty_stream (lex_error refused.0 refused.1)) × (refused.0 < length old.script) × (new ≡ old)
+ReturnsNextToken old new (Ok None) =
+    (old.rest ≡ empty_stream (eof (length old.script))) × (new ≡ old)
+ReturnsNextToken old new (Err refused) =
+    (old.rest ≡ empty_stream (lex_error refused.0 refused.1)) × (refused.0 < length old.script)
+    × (new ≡ old)

@@ -80,7 +80,8 @@ abbrev pub empty_stream : Ending → TokenStream
 empty_stream ending = record { tokens = []; ending = ending }
 
 -- trivia is skipped; a token comes before those after it; if there is neither, the tokens end
-abbrev pub stream_at : ℕ → Option ℕ → Result (ℕ × Terminal) SyntaxKind → (ℕ → TokenStream) → TokenStream
+abbrev pub stream_at : ℕ → Option ℕ → Result (ℕ × Terminal) SyntaxKind → (ℕ → TokenStream)
+    → TokenStream
 stream_at at (Some n) token after = after n
 stream_at at None (Ok t) after = with_first (at, t.1) (after t.0)
 stream_at at None (Err kind) after = empty_stream (lex_error at kind)
@@ -89,7 +90,8 @@ stream_at at None (Err kind) after = empty_stream (lex_error at kind)
 unfoldable pub tokens_from : ℕ → ℕ → List ℕ → TokenStream
 tokens_from at n [] = empty_stream (eof at)
 tokens_from at (suc n) (c ∷ cs) = tokens_from (suc at) n cs
-tokens_from at zero (c ∷ cs) = stream_at at (trivia_len (c ∷ cs)) (token_at (c ∷ cs)) (λ n. tokens_from (suc at) (n - 1) cs)
+tokens_from at zero (c ∷ cs) =
+    stream_at at (trivia_len (c ∷ cs)) (token_at (c ∷ cs)) (λ n. tokens_from (suc at) (n - 1) cs)
 
 -- the bytes of the byte order mark that a text begins with
 unfoldable pub bom_len : List ℕ → ℕ
@@ -114,7 +116,11 @@ tokens_of-words = refl
 
 -- the longest symbols
 tokens_of-symbols : tokens_of (codes "a<==1")
-    ≡ record { tokens = (0, word (codes "a")) ∷ (1, symbol symbols.LessEqual) ∷ (3, symbol symbols.Assign) ∷ (4, number 1) ∷ []; ending = eof 5 }
+    ≡ record {
+      tokens = (0, word (codes "a")) ∷ (1, symbol symbols.LessEqual)
+          ∷ (3, symbol symbols.Assign) ∷ (4, number 1) ∷ [];
+      ending = eof 5;
+    }
 unfolding tokens_of tokens_from trivia_len token_at word_at number_at quoted_at bom_len unescaped_text
 tokens_of-symbols = refl
 

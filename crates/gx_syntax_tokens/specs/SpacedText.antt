@@ -101,14 +101,20 @@ AreValidTerminals (t ∷ ts) = IsValid t × AreValidTerminals ts
 
 -- the text of tokens lexes to these tokens, and to its end
 abbrev pub SpacedTextRoundTrips : Type 0
-SpacedTextRoundTrips = (ps : List Piece) → AreValid ps → (terminals (tokens_of (spaced_text ps)) ≡ map terminal ps) × ((tokens_of (spaced_text ps)).ending ≡ eof (length (spaced_text ps)))
+SpacedTextRoundTrips = (ps : List Piece) → AreValid ps
+    → (terminals (tokens_of (spaced_text ps)) ≡ map terminal ps)
+    × ((tokens_of (spaced_text ps)).ending ≡ eof (length (spaced_text ps)))
 
 -- and so does the text of lines
 abbrev pub LinesRoundTrip : Type 0
-LinesRoundTrip = (pss : List (List Piece)) → AreValidLines pss → (terminals (tokens_of (lines_text pss)) ≡ terminals_of_lines pss) × ((tokens_of (lines_text pss)).ending ≡ eof (length (lines_text pss)))
+LinesRoundTrip = (pss : List (List Piece)) → AreValidLines pss
+    → (terminals (tokens_of (lines_text pss)) ≡ terminals_of_lines pss)
+    × ((tokens_of (lines_text pss)).ending ≡ eof (length (lines_text pss)))
 
 -- a call, a sign, a column and an operation
-spaced_text-call : spaced_text (function (codes "f") ∷ token (symbol symbols.OpenParen) ∷ sign ∷ token (word (codes "v")) ∷ token (symbol symbols.Dot) ∷ token (word (codes "x")) ∷ token (symbol symbols.CloseParen) ∷ token (symbol symbols.Minus) ∷ token (quoted (34 ∷ 10 ∷ [])) ∷ [])
+spaced_text-call : spaced_text (function (codes "f") ∷ token (symbol symbols.OpenParen) ∷ sign
+    ∷ token (word (codes "v")) ∷ token (symbol symbols.Dot) ∷ token (word (codes "x"))
+    ∷ token (symbol symbols.CloseParen) ∷ token (symbol symbols.Minus) ∷ token (quoted (34 ∷ 10 ∷ [])) ∷ [])
     ≡ codes "f(-v.x) - \"\\\"\\n\""
 spaced_text-call = refl
 

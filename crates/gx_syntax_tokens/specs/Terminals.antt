@@ -36,11 +36,13 @@ pub is_symbol-true : (s : Symbol) (t : Terminal) → is_symbol s t ≡ true → 
 is_symbol-true s (word w) is = cc
 is_symbol-true s (number n) is = cc
 is_symbol-true s (quoted v) is = cc
-is_symbol-true s (symbol found) is = ap symbol (spelling-injective found s ((bytes_eq-Decides (spelling found) (spelling s)).0 is))
+is_symbol-true s (symbol found) is =
+    ap symbol (spelling-injective found s ((bytes_eq-Decides (spelling found) (spelling s)).0 is))
 
 -- and the symbol passes it
 pub is_symbol-refl : (s : Symbol) → is_symbol s (symbol s) ≡ true
 is_symbol-refl s = (bytes_eq-Decides (spelling s) (spelling s)).1 refl
 
-is_symbol-comma : (is_symbol symbols.Comma (symbol symbols.Comma) ≡ true) × (is_symbol symbols.Comma (symbol symbols.Colon) ≡ false)
+is_symbol-comma : (is_symbol symbols.Comma (symbol symbols.Comma) ≡ true)
+    × (is_symbol symbols.Comma (symbol symbols.Colon) ≡ false)
 is_symbol-comma = (refl, refl)

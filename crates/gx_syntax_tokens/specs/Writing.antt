@@ -30,7 +30,8 @@ extends-begins old new extends = extends old (record { added = []; appended = sy
 pub begins_equal : (start old new : List ℕ) → new ≡ old → BeginsWith start old → BeginsWith start new
 begins_equal start old new same begins = record { added = begins.added; appended = same ∙ begins.appended }
 
-pub begins_append : (start old new added : List ℕ) → new ≡ old ++ added → BeginsWith start old → BeginsWith start new
+pub begins_append : (start old new added : List ℕ) → new ≡ old ++ added → BeginsWith start old
+    → BeginsWith start new
 begins_append start old new added same begins = record {
   added = begins.added ++ added;
   appended = same ∙ ap (λ l. l ++ added) begins.appended ∙ append_assoc start begins.added added;
@@ -53,7 +54,10 @@ separator spacings.Spaced u = if attaches_left u then [] else 32 ∷ []
 
 -- the state after one more piece
 abbrev pub with_piece : WriterState → Piece → WriterState
-with_piece w p = record { text = w.text ++ (separator w.last (terminal p) ++ token_text (terminal p)); last = spacing_after p }
+with_piece w p = record {
+  text = w.text ++ (separator w.last (terminal p) ++ token_text (terminal p));
+  last = spacing_after p;
+}
 
 -- and after more of them
 abbrev pub with_pieces : WriterState → List Piece → WriterState
@@ -66,9 +70,14 @@ with_line_end w = record { text = w.text ++ 10 ∷ []; last = spacings.LineStart
 
 -- pieces that are written at the start of a line give their spaced text
 abbrev pub WritesSpacedText : Type 0
-WritesSpacedText = (text : List ℕ) (ps : List Piece) → (with_pieces (record { text = text; last = spacings.LineStart }) ps).text ≡ text ++ spaced_text ps
+WritesSpacedText = (text : List ℕ) (ps : List Piece)
+    → (with_pieces (record { text = text; last = spacings.LineStart }) ps).text
+    ≡ text ++ spaced_text ps
 
 -- a call, a sign and a column
-written-call : with_pieces (record { text = codes "x "; last = spacings.LineStart }) (function (codes "f") ∷ token (symbol symbols.OpenParen) ∷ sign ∷ token (word (codes "v")) ∷ token (symbol symbols.Dot) ∷ token (word (codes "y")) ∷ token (symbol symbols.CloseParen) ∷ token (word (codes "z")) ∷ [])
+written-call : with_pieces (record { text = codes "x "; last = spacings.LineStart })
+    (function (codes "f") ∷ token (symbol symbols.OpenParen) ∷ sign ∷ token (word (codes "v"))
+    ∷ token (symbol symbols.Dot) ∷ token (word (codes "y")) ∷ token (symbol symbols.CloseParen)
+    ∷ token (word (codes "z")) ∷ [])
     ≡ record { text = codes "x f(-v.y) z"; last = spacings.Spaced }
 written-call = refl

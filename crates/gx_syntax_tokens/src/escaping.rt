@@ -18,7 +18,8 @@ use gx_rows::NoMemory;
 ///
 /// `NoMemory` if there is no room for it.
 pub(crate) fn put_quoted(out: &mut String, value: &str) -> Result<(), NoMemory>
-    ensures written { OnOk result (string_bytes out.new ≡ string_bytes out.old ++ 34 ∷ escaped_text value.now ++ 34 ∷ []) }
+    ensures written { OnOk result
+        (string_bytes out.new ≡ string_bytes out.old ++ 34 ∷ escaped_text value.now ++ 34 ∷ []) }
     ensures extends { Extends (string_bytes out.old) (string_bytes out.new) }
 {
     out.push_str("\"")?;
@@ -61,7 +62,8 @@ fn escape_of(byte: u8) -> &'static str
 
 // Adds a value, escaped.
 fn put_escaped(out: &mut String, value: &str) -> Result<(), NoMemory>
-    ensures written { OnOk result (string_bytes out.new ≡ string_bytes out.old ++ escaped_text value.now) }
+    ensures written { OnOk result
+        (string_bytes out.new ≡ string_bytes out.old ++ escaped_text value.now) }
     ensures extends { Extends (string_bytes out.old) (string_bytes out.new) }
 {
     let mut rest = value;

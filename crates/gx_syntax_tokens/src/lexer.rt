@@ -1,8 +1,9 @@
-//! The lexer: from an offset of a text on, the first token and its slice of the text, or how the tokens
-//! end. It takes no memory, and never sees more than one token; `Tokens` and `lex` call it.
+//! The lexer: from an offset of a text on, the first token and its slice of the text, or how the
+//! tokens end. It takes no memory, and never sees more than one token; `Tokens` and `lex` call it.
 //!
-//! To add a symbol, see `symbol.rt`; an escape, see `escaping.rt`; a limit, see `scan.rt`. A new kind of
-//! token gets a function here, a branch of `token`, and a branch of `token_at` in `specs/Lexing.antt`.
+//! To add a symbol, see `symbol.rt`; an escape, see `escaping.rt`; a limit, see `scan.rt`. A new
+//! kind of token gets a function here, a branch of `token`, and a branch of `token_at` in
+//! `specs/Lexing.antt`.
 
 ghost use Rattle.std.specs.Prelude.{◌≡◌, ◌≤◌, ◌<◌, ◌+◌, ◌-◌, ◌^◌, ◌∷◌, ◌++◌, [], Some, None, nat_le, if◌then◌else◌, true, length, drop, take, slice_index};
 ghost use Rattle.std.specs.Char.{is_ascii_digit};
@@ -62,7 +63,8 @@ fn word(text: &str, at: usize) -> Result<Scanned<'_>, SyntaxKind>
 fn value_of(digits: &str) -> Option<u64>
     requires nonempty { 0 < length digits.now }
     requires digits { all_ascii_digits digits.now ≡ true }
-    ensures { result ≡ (if nat_le (digits_value 10 digits.now) MOST_NUMBER then Some (digits_value 10 digits.now) else None) }
+    ensures { result ≡ (if nat_le (digits_value 10 digits.now) MOST_NUMBER
+        then Some (digits_value 10 digits.now) else None) }
 {
     match digits.parse::<u64>() {
         Ok(value) if value <= MOST_NUMBER => Some(value),

@@ -1,9 +1,9 @@
 //! The tokens of the script language: how a text falls into them, and how they are written with
 //! spaces between them.
 //!
-//! `Tokens` takes no memory and gives the tokens of a text one by one; `lex` lists them for the parser.
-//! `Writer` writes tokens, and what it writes lexes to the same tokens again. The crate depends on
-//! `gx_rows`; the parsers and the printer of scripts depend on it. It never sees a tree.
+//! `Tokens` takes no memory and gives the tokens of a text one by one; `lex` lists them for the
+//! parser. `Writer` writes tokens, and what it writes lexes to the same tokens again. The crate
+//! depends on `gx_rows`; the parsers and the printer of scripts depend on it. It never sees a tree.
 #![tactic(auto)]
 
 mod escaping;

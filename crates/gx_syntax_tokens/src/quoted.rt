@@ -31,7 +31,7 @@ pub(crate) fn quoted_len(after: &[u8]) -> Option<usize>
 }
 
 /// The number of bytes of the value of a text, from the bytes between its quotation marks.
-#[tactic(auto, using(crate::proofs::QuoteLemmas::value_len_escape, crate::proofs::QuoteLemmas::value_len_backslash, crate::proofs::QuoteLemmas::value_len_plain))]
+#[tactic(auto, using(crate::proofs::QuoteLemmas::value_len_steps))]
 pub(crate) fn value_len(raw: &[u8]) -> usize
     ensures { result ≡ length (unescaped_from false raw.now) }
 {

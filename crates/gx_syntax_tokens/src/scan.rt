@@ -1,8 +1,8 @@
 //! Runs of bytes at the front of a text: trivia, words and digits.
 //!
 //! It sees bytes, never tokens. A limit is changed here and in `specs/Limits.antt`, where it is a
-//! number of its own, so that a change of the constant alone is refused. A new byte of words or of white
-//! space is changed here and in `specs/Lexing.antt`.
+//! number of its own, so that a change of the constant alone is refused. A new byte of words or of
+//! white space is changed here and in `specs/Lexing.antt`.
 
 ghost use Rattle.std.specs.Prelude.{◌≡◌, ◌≤◌, ◌<◌, None, length, drop};
 ghost use Rattle.std.specs.Char.{is_ascii_digit};

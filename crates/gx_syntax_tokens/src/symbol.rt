@@ -1,7 +1,8 @@
 //! Symbols: how each is written, and the longest one at the front of a text.
 //!
-//! A new symbol of one byte goes into `Symbol`, `spelling` and `one_byte_symbol` here, and into the same
-//! words of `specs/Symbols.antt`. If another symbol is its first byte, `two_byte_symbol` must find it.
+//! A new symbol of one byte goes into `Symbol`, `spelling` and `one_byte_symbol` here, and into the
+//! same words of `specs/Symbols.antt`. If another symbol is its first byte, `two_byte_symbol` must
+//! find it.
 
 ghost use Rattle.std.specs.Prelude.{◌≡◌, length};
 ghost use Rattle.gx_syntax_tokens.specs.Symbols.{one_byte_symbol, spelling, symbol_at, symbol_with_equals, two_byte_symbol};

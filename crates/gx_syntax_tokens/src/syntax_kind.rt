@@ -1,5 +1,5 @@
-//! Why a script is refused: one variant for each cause. The lexer gives all but `Unexpected`, which is
-//! the parsers' only one.
+//! Why a script is refused: one variant for each cause. The lexer gives all but `Unexpected`, which
+//! is the parsers' only one.
 
 /// Why a script is refused at an offset.
 #[derive(Clone, Copy, Debug, PartialEq, Eq)]

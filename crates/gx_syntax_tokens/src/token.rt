@@ -1,5 +1,5 @@
-//! Tokens as a user of the crate sees them: a kind and a slice of the script. Their values are for the
-//! parser alone (`token_value.rt`).
+//! Tokens as a user of the crate sees them: a kind and a slice of the script. Their values are for
+//! the parser alone (`token_value.rt`).
 
 /// The kind of a token.
 #[derive(Clone, Copy, Debug, PartialEq, Eq)]

@@ -1,5 +1,5 @@
-//! Tokens as the parser takes them: words, values of numbers, quoted texts, and symbols, each with its
-//! offset; and the list of a text's tokens. The parser never sees bytes.
+//! Tokens as the parser takes them: words, values of numbers, quoted texts, and symbols, each with
+//! its offset; and the list of a text's tokens. The parser never sees bytes.
 
 ghost use Rattle.std.specs.Prelude.{◌≡◌, ◌<◌, ◌^◌, All, IfOk, length};
 ghost use Rattle.gx_syntax_tokens.specs.Lexing.{tokens_of};
@@ -95,8 +95,8 @@ pub fn lex<'a>(alloc: Global, text: &'a str) -> Result<(Vec<PlacedToken<'a>>, Le
     }
 }
 
-/// The value of the text between quotation marks, which `TokenValue::Quoted` has. A backslash that begins
-/// no escape is dropped; the tokens of a text have none.
+/// The value of the text between quotation marks, which `TokenValue::Quoted` has. A backslash that
+/// begins no escape is dropped; the tokens of a text have none.
 ///
 /// # Errors
 ///

@@ -1,8 +1,8 @@
 //! The tokens of a script, one after the other, without a list of them.
 //!
-//! `Tokens` borrows a script. Contracts see it as the script, how many of its bytes are consumed, and
-//! the tokens of the rest with how they end: at the end of the script, or at the first offset that begins
-//! no token.
+//! `Tokens` borrows a script. Contracts see it as the script, how many of its bytes are consumed,
+//! and the tokens of the rest with how they end: at the end of the script, or at the first offset
+//! that begins no token.
 
 ghost use Rattle.std.specs.Prelude.{◌≡◌, ◌<◌, ◌^◌, length};
 ghost use Rattle.gx_syntax_tokens.specs.Lexing.{tokens_of};

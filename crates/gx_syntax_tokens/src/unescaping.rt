@@ -1,6 +1,7 @@
 //! Reads the value of a quoted text from the bytes between its quotation marks.
 //!
-//! It never sees the quotation marks: `quoted.rt` finds where a text closes, and refuses a wrong escape.
+//! It never sees the quotation marks: `quoted.rt` finds where a text closes, and refuses a wrong
+//! escape.
 
 ghost use Rattle.std.specs.Prelude.{◌≡◌, ◌++◌, ◌∷◌, ◌<◌, [], IfOk, drop, false, true, length, slice_index, string_bytes, take_while};
 ghost use Rattle.std.specs.List.{prefix_len};
@@ -51,7 +52,8 @@ fn escape_value(byte: u8) -> &'static str
 fn split_escape(text: &str) -> (&'static str, &str)
     requires nonempty { 0 < length text.now }
     requires backslash { slice_index text.now 0 ≡ 92 }
-    ensures value { unescaped_from false text.now ≡ result.0.now ++ unescaped_from false result.1.now }
+    ensures value { unescaped_from false text.now
+        ≡ result.0.now ++ unescaped_from false result.1.now }
     ensures shorter { length result.1.now < length text.now }
 {
     let rest = &text[1..];

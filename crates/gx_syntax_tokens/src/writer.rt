@@ -1,10 +1,10 @@
 //! Writes lines of tokens with spaces between them, so that the text lexes to the same tokens.
 //!
-//! `Writer` gets tokens in order and sees no tree: whether a `-` is a sign, and a word the name of a
-//! function, its caller says. A new symbol needs a rule here only if no space comes before it or after
-//! it: then change `symbol_separator` or `symbol`, and `attaches_left` or `attaches_right` and
-//! `spacing_after` of `specs/`. A new escape goes into `escaping.rt`. There are no limits here: what a
-//! text may have is the caller's part.
+//! `Writer` gets tokens in order and sees no tree: whether a `-` is a sign, and a word the name of
+//! a function, its caller says. A new symbol needs a rule here only if no space comes before it or
+//! after it: then change `symbol_separator` or `symbol`, and `attaches_left` or `attaches_right`
+//! and `spacing_after` of `specs/`. A new escape goes into `escaping.rt`. There are no limits here:
+//! what a text may have is the caller's part.
 #![tactic(auto, using(crate::specs::Writing::begins_equal, crate::specs::Writing::begins_append))]
 
 ghost use Rattle.std.specs.Prelude.{◌≡◌, [], IfOk, OnOk};
@@ -34,7 +34,8 @@ pub enum Spacing {
     Spaced,
 }
 
-/// The text of lines of tokens. Contracts see it as the text so far and how the next token joins it.
+/// The text of lines of tokens. Contracts see it as the text so far and how the next token joins
+/// it.
 #[derive(Drop)]
 pub struct Writer {
     alloc: Global,
@@ -90,10 +91,11 @@ impl Writer {
     ///
     /// # Errors
     ///
-    /// `NoMemory` if there is no room for it. A part of it may be written then; so it is with each call
-    /// below.
+    /// `NoMemory` if there is no room for it. A part of it may be written then; so it is with each
+    /// call below.
     pub fn word(&mut self, word: &str) -> Result<(), NoMemory>
-        ensures written { OnOk result (self.new ≡ with_piece self.old (pieces.token (terminals.word word.now))) }
+        ensures written { OnOk result
+            (self.new ≡ with_piece self.old (pieces.token (terminals.word word.now))) }
         ensures extends { Extends self.old.text self.new.text }
     {
         self.out.push_str(word_separator(self.last))?;
@@ -123,7 +125,8 @@ impl Writer {
     ///
     /// `NoMemory`.
     pub fn number(&mut self, number: u64) -> Result<(), NoMemory>
-        ensures written { OnOk result (self.new ≡ with_piece self.old (pieces.token (terminals.number number))) }
+        ensures written { OnOk result
+            (self.new ≡ with_piece self.old (pieces.token (terminals.number number))) }
         ensures extends { Extends self.old.text self.new.text }
     {
         self.out.push_str(word_separator(self.last))?;
@@ -139,7 +142,8 @@ impl Writer {
     ///
     /// `NoMemory`.
     pub fn quoted(&mut self, value: &str) -> Result<(), NoMemory>
-        ensures written { OnOk result (self.new ≡ with_piece self.old (pieces.token (terminals.quoted value.now))) }
+        ensures written { OnOk result
+            (self.new ≡ with_piece self.old (pieces.token (terminals.quoted value.now))) }
         ensures extends { Extends self.old.text self.new.text }
     {
         self.out.push_str(word_separator(self.last))?;
@@ -154,7 +158,8 @@ impl Writer {
     ///
     /// `NoMemory`.
     pub fn symbol(&mut self, symbol: Symbol) -> Result<(), NoMemory>
-        ensures written { OnOk result (self.new ≡ with_piece self.old (pieces.token (terminals.symbol symbol))) }
+        ensures written { OnOk result
+            (self.new ≡ with_piece self.old (pieces.token (terminals.symbol symbol))) }
         ensures extends { Extends self.old.text self.new.text }
     {
         self.out.push_str(symbol_separator(self.last, symbol))?;
@@ -205,5 +210,30 @@ impl Writer {
         ensures { IfOk result (λ text. text ≡ self.text) }
     {
         Text::of(self.alloc, self.out.as_str())
+    }
+}
+
+#[cfg(test)]
+mod tests {
+    use super::*;
+    use std::test::Fail;
+
+    #[test]
+    fn writes_lines(rt: HostRuntime) -> Result<(), Fail> {
+        let mut out = Writer::new(rt.alloc());
+        out.word("x")?;
+        out.symbol(Symbol::Assign)?;
+        out.function("f")?;
+        out.symbol(Symbol::OpenParen)?;
+        out.sign()?;
+        out.number(70)?;
+        out.symbol(Symbol::Comma)?;
+        out.quoted("é\"\n")?;
+        out.symbol(Symbol::CloseParen)?;
+        out.end_line()?;
+        out.word("y")?;
+        let text = out.into_text()?;
+        assert_eq!(rt; text.as_str(), "x = f(-70, \"é\\\"\\n\")\ny");
+        Ok(())
     }
 }

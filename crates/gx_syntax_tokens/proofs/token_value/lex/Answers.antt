@@ -2,7 +2,7 @@ use Rattle.std.proofs.Common.{◌≡◌, arith}
 use Rattle.gx_syntax_tokens.specs.Lexing.{bom_len}
 use Rattle.gx_syntax_tokens.proofs.LexingLemmas.{tokens_of-after_bom, bom_len-within}
 use Rattle.gx_syntax_tokens.proofs.ValidityLemmas.{placed-valid}
-use Rattle.gx_syntax_tokens.proofs.NextTokenLemmas.{with_front-done}
+use Rattle.gx_syntax_tokens.proofs.NextTokenLemmas.{with_tokens-done}
 use Rattle.gx_syntax_tokens.proofs.token_value.lex.Goals as goal
 
 pub loop-placed-init : goal.loop-placed-init
@@ -15,4 +15,4 @@ loop-placed-init c =
 
 pub returns-in-Ends-clause-valid : goal.returns-in-Ends-clause-valid
 returns-in-Ends-clause-valid c =
-    placed-valid c.loop-placed.tokens.items c.in-Ends.end c.args.text.now (with_front-done c.loop-placed.tokens.items c.in-Ends.end _ _ c.in-Ends.ensures.0 c.loop-placed.invariant.tokens)
+    placed-valid c.loop-placed.tokens.items c.in-Ends.end c.args.text.now (with_tokens-done c.loop-placed.tokens.items c.in-Ends.end _ _ c.in-Ends.ensures.0 c.loop-placed.invariant.tokens)
