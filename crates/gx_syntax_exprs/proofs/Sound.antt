@@ -105,24 +105,24 @@ record IsReduced (k : ℕ) (pre : List Terminal) (x : Expr) (st : List Frame) : 
   q : List Terminal
   level_is : ℕ
   whole : pre ≡ p ++ q
-  stands : IsBuiltBy st p
+  built : IsBuiltBy st p
   spells : Spells level_is q x
   high : k ≤ level_is
   fits_there : min_precedence st ≤ level_is
 
 reduced : {st : List Frame} {p : List Terminal} → IsBuiltBy st p → (k l : ℕ) (q : List Terminal) (x : Expr) → Spells l q x → k ≤ l → min_precedence st ≤ l → IsReduced k (p ++ q) (reduce k x st).0 (reduce k x st).1
-reduced base k l q x d h fit = record { p = []; q = q; level_is = l; whole = refl; stands = base; spells = d; high = h; fits_there = fit }
-reduced (on_paren {st} {p} s) k l q x d h fit = record { p = p ++ symbol symbols.OpenParen ∷ []; q = q; level_is = l; whole = refl; stands = on_paren s; spells = d; high = h; fits_there = fit }
-reduced (on_call {st} {p} {q = q'} f s n e) k l q x d h fit = record { p = p ++ word f ∷ symbol symbols.OpenParen ∷ q'; q = q; level_is = l; whole = refl; stands = on_call f s n e; spells = d; high = h; fits_there = fit }
+reduced base k l q x d h fit = record { p = []; q = q; level_is = l; whole = refl; built = base; spells = d; high = h; fits_there = fit }
+reduced (on_paren {st} {p} s) k l q x d h fit = record { p = p ++ symbol symbols.OpenParen ∷ []; q = q; level_is = l; whole = refl; built = on_paren s; spells = d; high = h; fits_there = fit }
+reduced (on_call {st} {p} {q = q'} f s n e) k l q x d h fit = record { p = p ++ word f ∷ symbol symbols.OpenParen ∷ q'; q = q; level_is = l; whole = refl; built = on_call f s n e; spells = d; high = h; fits_there = fit }
 reduced (on_pending {st} {p} {q = q'} {w} s fit' b) k l q x d h fit = go (nat_le k (pending_precedence w)) refl (λ up. reduced s k (pending_precedence w) (q' ++ q) (apply w x) (spells_applied b (spells_at_looser (pending_operand_precedence w) l fit d)) up fit')
   where
     go : (c : Bool) → nat_le k (pending_precedence w) ≡ c → (k ≤ pending_precedence w → IsReduced k (p ++ (q' ++ q)) (reduce k (apply w x) st).0 (reduce k (apply w x) st).1)
         → IsReduced k ((p ++ q') ++ q) (if c then reduce k (apply w x) st else (x, frames.Operator w ∷ st)).0 (if c then reduce k (apply w x) st else (x, frames.Operator w ∷ st)).1
     go true e again = subst (λ v. IsReduced k v (reduce k (apply w x) st).0 (reduce k (apply w x) st).1) (sym (append_assoc p q' q)) (again (leb-true k (pending_precedence w) e))
-    go false e again = record { p = p ++ q'; q = q; level_is = l; whole = refl; stands = on_pending s fit' b; spells = d; high = h; fits_there = fit }
+    go false e again = record { p = p ++ q'; q = q; level_is = l; whole = refl; built = on_pending s fit' b; spells = d; high = h; fits_there = fit }
 
 reduced_viable : (k : ℕ) (pre : List Terminal) (x : Expr) (st : List Frame) → IsReduced k pre x st → IsViablePrefix (Spells 1) pre
-reduced_viable k pre x st u = viable_at (u.p ++ u.q) pre (sym u.whole) (viable_with u.stands u.level_is u.q x u.spells u.fits_there)
+reduced_viable k pre x st u = viable_at (u.p ++ u.q) pre (sym u.whole) (viable_with u.built u.level_is u.q x u.spells u.fits_there)
 
 -- the stack is empty
 built_empty : {p : List Terminal} → IsBuiltBy [] p → p ≡ []
@@ -130,7 +130,7 @@ built_empty base = refl
 
 reduced_whole : (k : ℕ) (pre : List Terminal) (x : Expr) → 1 ≤ k → IsReduced k pre x [] → Spells 1 pre x
 reduced_whole k pre x h u =
-    let empty : u.p ≡ [] = built_empty u.stands in
+    let empty : u.p ≡ [] = built_empty u.built in
     let same : pre ≡ u.q = u.whole ∙ ap (λ v. v ++ u.q) empty in
     let up : k ≤ u.level_is = u.high in
     subst (λ v. Spells 1 v x) (sym same) (spells_at_looser 1 u.level_is (omega arith) u.spells)
@@ -154,14 +154,14 @@ reduced_reaches p q pre t u e h d = rw (e, h) d
 justified_close_paren : (pre : List Terminal) (x : Expr) (st : List Frame) (t : Terminal) → t ≡ symbol symbols.CloseParen → IsReduced 1 pre x st → IsJustified pre (Some t) (on_close_paren x st)
 justified_close_paren pre x [] t e u = reduced_whole 1 pre x (omega arith) u
 justified_close_paren pre x (frames.Operator w ∷ st) t e u = reduced_viable 1 pre x (frames.Operator w ∷ st) u
-justified_close_paren pre x (frames.Paren ∷ st) t e u = reduced_reaches u.p u.q pre t (symbol symbols.CloseParen) u.whole e (in_bracket u.stands u.q x (spells_at_looser 1 u.level_is u.high u.spells))
-justified_close_paren pre x (frames.Call f xs ∷ st) t e u = reduced_reaches u.p u.q pre t (symbol symbols.CloseParen) u.whole e (in_call u.stands u.q x (spells_at_looser 1 u.level_is u.high u.spells))
+justified_close_paren pre x (frames.Paren ∷ st) t e u = reduced_reaches u.p u.q pre t (symbol symbols.CloseParen) u.whole e (in_bracket u.built u.q x (spells_at_looser 1 u.level_is u.high u.spells))
+justified_close_paren pre x (frames.Call f xs ∷ st) t e u = reduced_reaches u.p u.q pre t (symbol symbols.CloseParen) u.whole e (in_call u.built u.q x (spells_at_looser 1 u.level_is u.high u.spells))
 
 justified_comma : (pre : List Terminal) (x : Expr) (st : List Frame) (t : Terminal) → t ≡ symbol symbols.Comma → IsReduced 1 pre x st → IsJustified pre (Some t) (on_comma x st)
 justified_comma pre x [] t e u = reduced_whole 1 pre x (omega arith) u
 justified_comma pre x (frames.Operator w ∷ st) t e u = reduced_viable 1 pre x (frames.Operator w ∷ st) u
 justified_comma pre x (frames.Paren ∷ st) t e u = reduced_viable 1 pre x (frames.Paren ∷ st) u
-justified_comma pre x (frames.Call f xs ∷ st) t e u = reduced_reaches u.p u.q pre t (symbol symbols.Comma) u.whole e (in_arguments u.stands u.q x (spells_at_looser 1 u.level_is u.high u.spells))
+justified_comma pre x (frames.Call f xs ∷ st) t e u = reduced_reaches u.p u.q pre t (symbol symbols.Comma) u.whole e (in_arguments u.built u.q x (spells_at_looser 1 u.level_is u.high u.spells))
 
 justified_delimiter : (pre : List Terminal) (x : Expr) (st : List Frame) (t : Terminal) → IsReduced 1 pre x st → IsJustified pre (Some t) (on_delimiter t x st)
 justified_delimiter pre x st t u = go (is_symbol symbols.CloseParen t) refl
@@ -180,7 +180,7 @@ justified_operator o pre x st t e u = go (nat_le (min_precedence st) (binary_pre
     go : (c : Bool) → nat_le (min_precedence st) (binary_precedence o) ≡ c → IsJustified pre (Some t) (if c then continues states.ExpectOperand (frames.Operator (pending.Infix x o) ∷ st) else rejects)
     go true h = reduced_reaches u.p u.q pre t (infix_token o) u.whole e
         (reached_at (u.p ++ (u.q ++ infix_token o ∷ [])) ((u.p ++ u.q) ++ infix_token o ∷ []) (sym (append_assoc u.p u.q (infix_token o ∷ [])))
-        (at_operand_start (on_pending u.stands (leb-true (min_precedence st) (binary_precedence o) h) (begun_infix o (spells_at_looser (left_precedence o) u.level_is u.high u.spells)))))
+        (at_operand_start (on_pending u.built (leb-true (min_precedence st) (binary_precedence o) h) (begun_infix o (spells_at_looser (left_precedence o) u.level_is u.high u.spells)))))
     go false h = reduced_viable (left_precedence o) pre x st u
 
 justified_reduced : (t : Terminal) (o : Option BinaryOp) (pre : List Terminal) (x : Expr) (st : List Frame) → operator t ≡ o → IsReduced (left_precedence_of o) pre x st → IsJustified pre (Some t) (on_reduced t o x st)

@@ -150,8 +150,8 @@ module _ {T A B : Type 0} (L : List T → A → Type 0) (M : A → List T → B 
   then_again : IsSoundAndLocal L p → (u v mid : List T) (t : T) (r s : List T) (o : Option B) (x : A) → IsSoundAndLocal (M x) (f x)
       → mid ≡ v ++ t ∷ r → p (u ++ mid) ≡ Ok (x, mid) → f x mid ≡ result_at o (t ∷ r) → seq p f ((u ++ v) ++ t ∷ s) ≡ result_at o (t ∷ s)
   then_again P u v mid t r s o x F e h g =
-      let read : p (u ++ (v ++ t ∷ r)) ≡ Ok (x, v ++ t ∷ r) = rw (← e) h in
-      let again : p (u ++ (v ++ t ∷ s)) ≡ Ok (x, v ++ t ∷ s) = moved P u v t r s x read in
+      let once : p (u ++ (v ++ t ∷ r)) ≡ Ok (x, v ++ t ∷ r) = rw (← e) h in
+      let again : p (u ++ (v ++ t ∷ s)) ≡ Ok (x, v ++ t ∷ s) = moved P u v t r s x once in
       let after : f x (v ++ t ∷ s) ≡ result_at o (t ∷ s) = F.local v t r s o (rw (← e) g) in
       rw (append_assoc, again) after
 

@@ -105,8 +105,8 @@ module _ {T A : Type 0} (L : List T → A → Type 0) (starts : T → Bool) (p :
   many_more : (n : ℕ) (w mid : List T) (x : A) → Starts starts w → p (w ++ mid) ≡ Ok (x, mid) → many starts p (suc n) (w ++ mid) ≡ many starts p n mid >>= λ xs rest. Ok (x ∷ xs, rest)
   many_more n w mid x s e =
       let begins : w ++ mid ≡ s.head ∷ (s.tail ++ mid) = ap (λ v. v ++ mid) s.whole in
-      let read : p (s.head ∷ (s.tail ++ mid)) ≡ Ok (x, mid) = ap p (sym begins) ∙ e in
-      ap (λ v. many starts p (suc n) v) begins ∙ many_some n s.head (s.tail ++ mid) s.passes ∙ ap (λ r. r >>= λ y. map_value (λ xs. y ∷ xs) (many starts p n)) read
+      let once : p (s.head ∷ (s.tail ++ mid)) ≡ Ok (x, mid) = ap p (sym begins) ∙ e in
+      ap (λ v. many starts p (suc n) v) begins ∙ many_some n s.head (s.tail ++ mid) s.passes ∙ ap (λ r. r >>= λ y. map_value (λ xs. y ∷ xs) (many starts p n)) once
 
   ends_many : (g : T → Bool) → ((t : T) → starts t ≡ true → g t ≡ false) → ((w : List T) (x : A) → L w x → Starts starts w) → {ws : List T} {xs : List A} → Many L ws xs → (rest : List T) → StopsBefore (λ t. g t || starts t) rest → StopsBefore g (ws ++ rest)
   ends_many g apart heads none rest e = stops_left g starts rest e
@@ -121,9 +121,9 @@ module _ {T A : Type 0} (L : List T → A → Type 0) (starts : T → Bool) (p :
   many_complete g P heads apart (suc n) (more {w} {ws} {x} {xs} d ds) rest a e =
       let s = heads w x d in
       let lengths : length (w ++ ws ++ rest) ≡ length (s.head ∷ s.tail) + length (ws ++ rest) = ap length (append_assoc w ws rest) ∙ length-append w (ws ++ rest) ∙ ap (λ v. length v + length (ws ++ rest)) s.whole in
-      let read : p (w ++ (ws ++ rest)) ≡ Ok (x, ws ++ rest) = P.complete w (ws ++ rest) x d (ends_many g apart heads ds rest e) in
+      let once : p (w ++ (ws ++ rest)) ≡ Ok (x, ws ++ rest) = P.complete w (ws ++ rest) x d (ends_many g apart heads ds rest e) in
       let after : many starts p n (ws ++ rest) ≡ Ok (xs, rest) = many_complete g P heads apart n ds rest (omega (arith, lengths)) e in
-      rw append_assoc (many_more n w (ws ++ rest) x s read ∙ ap (λ r. r >>= λ ys rest. Ok (x ∷ ys, rest)) after)
+      rw append_assoc (many_more n w (ws ++ rest) x s once ∙ ap (λ r. r >>= λ ys rest. Ok (x ∷ ys, rest)) after)
 
   pub many_while_exact : (g : T → Bool) → IsExact L g p → ((w : List T) (x : A) → L w x → Starts starts w) → ((t : T) → starts t ≡ true → g t ≡ false)
       → IsExact (Many L) (λ t. g t || starts t) (many_while starts p)

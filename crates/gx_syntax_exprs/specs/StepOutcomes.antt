@@ -25,10 +25,10 @@ abbrev pub StepsOver : Result Step NoMemory → List Frame → List Terminal →
 StepsOver (Ok step) st rest outcome = (outcome_of step st, rest) ≡ outcome
 StepsOver (Err e) st rest outcome = Unit {0}
 
--- the next token, as the grammar sees it
-abbrev pub next_terminal : TokenValue → Option Terminal
-next_terminal value = Some (terminal_of value)
+-- a token that follows, as the grammar sees it
+abbrev pub some_of : TokenValue → Option Terminal
+some_of value = Some (terminal_of value)
 
--- the next token, or the end
-abbrev pub terminal_at : Option TokenValue → Option Terminal
-terminal_at next = option_map terminal_of next
+-- a token that follows, or the end
+abbrev pub next_at : Option TokenValue → Option Terminal
+next_at next = option_map terminal_of next

@@ -2,9 +2,10 @@
 //!
 //! `Cursor` borrows a list of tokens and parses from its start: each method takes the tokens that
 //! it names and leaves the rest. Contracts see it as the list of the tokens that remain, without
-//! their offsets, so the clause of each parser reads `Parses result self.new (definition
-//! self.old)`. If a method refuses, the first of the tokens that remain is the refused one, and if
-//! none remains, the end is refused. The cursor never sees the text of the script.
+//! their offsets, so that the clause of each parser is one equation:
+//! `Parses result self.new (definition self.old)`. If a method refuses, the first of the tokens
+//! that remain is the refused one, and if none remains, the end is refused. The cursor never sees
+//! the text of the script.
 
 ghost use Rattle.std.specs.Prelude.{◌≡◌, ◌<◌, ◌^◌, ℕ, List, Option, true, drop, length};
 ghost use Rattle.gx_syntax_tokens.specs.Terminals.{is_symbol};

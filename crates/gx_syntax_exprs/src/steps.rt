@@ -6,7 +6,7 @@ ghost use Rattle.std.specs.Prelude.{◌≡◌, None, bytes_eq};
 ghost use Rattle.gx_syntax_tokens.specs.TokenTexts.{terminal_of};
 ghost use Rattle.gx_syntax_exprs.specs.Operators.{not_word};
 ghost use Rattle.gx_syntax_exprs.specs.PrecedenceParser as parser;
-ghost use Rattle.gx_syntax_exprs.specs.StepOutcomes.{Steps, next_terminal, outcome_of, terminal_at};
+ghost use Rattle.gx_syntax_exprs.specs.StepOutcomes.{Steps, some_of, outcome_of, next_at};
 
 use crate::operators::operator;
 use crate::stack::{Frame, Pending, Stack, reduce};
@@ -137,7 +137,7 @@ fn on_other(
     x: Expr,
     token: TokenValue<'_>,
 ) -> Result<Step, NoMemory>
-    ensures { Steps result stack.new (parser.after_operand x stack.old (next_terminal token.entry)) }
+    ensures { Steps result stack.new (parser.after_operand x stack.old (some_of token.entry)) }
 {
     match operator(token) {
         Some(operator) => {
@@ -158,7 +158,7 @@ fn after_operand(
     x: Expr,
     next: Option<TokenValue<'_>>,
 ) -> Result<Step, NoMemory>
-    ensures { Steps result stack.new (parser.after_operand x stack.old (terminal_at next.entry)) }
+    ensures { Steps result stack.new (parser.after_operand x stack.old (next_at next.entry)) }
 {
     match next {
         Some(token) => on_other(alloc, stack, x, token),
@@ -239,7 +239,7 @@ fn on_lone_word(
     word: &str,
     next: Option<TokenValue<'_>>,
 ) -> Result<Step, NoMemory>
-    ensures { Steps result stack.new (parser.on_lone_word word.now stack.old (terminal_at next.entry)) }
+    ensures { Steps result stack.new (parser.on_lone_word word.now stack.old (next_at next.entry)) }
 {
     match constant_word(word) {
         Some(x) => after_operand(alloc, stack, x, next),
@@ -249,7 +249,7 @@ fn on_lone_word(
 
 /// A token other than `.` after the word `not`.
 fn on_not(alloc: Global, stack: &mut Stack, token: TokenValue<'_>) -> Result<Step, NoMemory>
-    ensures { Steps result stack.new (parser.on_not stack.old (next_terminal token.entry)) }
+    ensures { Steps result stack.new (parser.on_not stack.old (some_of token.entry)) }
 {
     if stack.min_precedence() > UnaryOp::Not.precedence() {
         return Ok(Step::Reject);
@@ -265,7 +265,7 @@ fn after_word(
     word: Text,
     token: TokenValue<'_>,
 ) -> Result<Step, NoMemory>
-    ensures { Steps result stack.new (parser.after_word word stack.old (next_terminal token.entry)) }
+    ensures { Steps result stack.new (parser.after_word word stack.old (some_of token.entry)) }
 {
     if token.is(Symbol::Dot) {
         Ok(Step::Continue(State::AfterDot(word)))
@@ -318,7 +318,7 @@ pub(crate) fn transition(
     state: State,
     token: TokenValue<'_>,
 ) -> Result<Step, NoMemory>
-    ensures { Steps result stack.new (parser.transition state stack.old (next_terminal token.entry)) }
+    ensures { Steps result stack.new (parser.transition state stack.old (some_of token.entry)) }
 {
     match state {
         State::ExpectOperand => on_operand_start(alloc, token, stack),
