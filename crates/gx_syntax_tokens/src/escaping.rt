@@ -2,7 +2,6 @@
 //!
 //! It sees bytes alone: neither tokens nor the spaces between them. A new escape is added here, in
 //! `unescaping.rt`, and in `escaped_byte`, `is_escape` and `escape_value` of `specs/`.
-#![tactic(auto, using(crate::specs::Writing::begins_equal, crate::specs::Writing::begins_append))]
 
 ghost use Rattle.std.specs.Prelude.{◌≡◌, ◌++◌, ◌∷◌, [], OnOk, string_bytes, drop, take_while, false};
 ghost use Rattle.std.specs.List.{prefix_len};
@@ -10,6 +9,7 @@ ghost use Rattle.gx_syntax_tokens.specs.Scanning.{is_unescaped_byte};
 ghost use Rattle.gx_syntax_tokens.specs.SpacedText.{escaped_byte, escaped_text};
 ghost use Rattle.gx_syntax_tokens.specs.Writing.{Extends};
 
+use crate::appending::append;
 use gx_rows::NoMemory;
 
 /// Adds a value between quotation marks, escaped.
@@ -22,10 +22,9 @@ pub(crate) fn put_quoted(out: &mut String, value: &str) -> Result<(), NoMemory>
         (string_bytes out.new ≡ string_bytes out.old ++ 34 ∷ escaped_text value.now ++ 34 ∷ []) }
     ensures extends { Extends (string_bytes out.old) (string_bytes out.new) }
 {
-    out.push_str("\"")?;
+    append(out, "\"")?;
     put_escaped(out, value)?;
-    out.push_str("\"")?;
-    Ok(())
+    append(out, "\"")
 }
 
 // The bytes before the first byte that is escaped.
@@ -69,11 +68,11 @@ fn put_escaped(out: &mut String, value: &str) -> Result<(), NoMemory>
     let mut rest = value;
     'runs: loop {
         let (plain, special) = split_plain(rest);
-        out.push_str(plain)?;
+        append(out, plain)?;
         let [first, ..] = special.as_bytes() else {
             return Ok(());
         };
-        out.push_str(escape_of(*first))?;
+        append(out, escape_of(*first))?;
         rest = &special[1..];
     }
 }

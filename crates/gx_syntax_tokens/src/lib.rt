@@ -6,6 +6,7 @@
 //! depends on `gx_rows`; the parsers and the printer of scripts depend on it. It never sees a tree.
 #![tactic(auto)]
 
+mod appending;
 mod escaping;
 mod laws;
 mod lexer;

@@ -5,7 +5,6 @@
 //! after it: then change `symbol_separator` or `symbol`, and `attaches_left` or `attaches_right`
 //! and `spacing_after` of `specs/`. A new escape goes into `escaping.rt`. There are no limits here:
 //! what a text may have is the caller's part.
-#![tactic(auto, using(crate::specs::Writing::begins_equal, crate::specs::Writing::begins_append))]
 
 ghost use Rattle.std.specs.Prelude.{◌≡◌, [], IfOk, OnOk};
 ghost use Rattle.gx_syntax_tokens.specs.SpacedText as pieces;
@@ -16,6 +15,7 @@ ghost use Rattle.gx_syntax_tokens.specs.declared.writer.Spacing.TheVariants as s
 ghost use Rattle.gx_syntax_tokens.specs.declared.symbol.Symbol.TheVariants as symbols;
 
 use crate::Symbol;
+use crate::appending::append;
 use crate::escaping::put_quoted;
 use gx_rows::{NoMemory, Text};
 use std::alloc::Global;
@@ -98,8 +98,8 @@ impl Writer {
             (self.new ≡ with_piece self.old (pieces.token (terminals.word word.now))) }
         ensures extends { Extends self.old.text self.new.text }
     {
-        self.out.push_str(word_separator(self.last))?;
-        self.out.push_str(word)?;
+        append(&mut self.out, word_separator(self.last))?;
+        append(&mut self.out, word)?;
         self.last = Spacing::Spaced;
         Ok(())
     }
@@ -113,8 +113,8 @@ impl Writer {
         ensures written { OnOk result (self.new ≡ with_piece self.old (pieces.function name.now)) }
         ensures extends { Extends self.old.text self.new.text }
     {
-        self.out.push_str(word_separator(self.last))?;
-        self.out.push_str(name)?;
+        append(&mut self.out, word_separator(self.last))?;
+        append(&mut self.out, name)?;
         self.last = Spacing::BeforeCall;
         Ok(())
     }
@@ -129,9 +129,9 @@ impl Writer {
             (self.new ≡ with_piece self.old (pieces.token (terminals.number number))) }
         ensures extends { Extends self.old.text self.new.text }
     {
-        self.out.push_str(word_separator(self.last))?;
+        append(&mut self.out, word_separator(self.last))?;
         let digits = format!(in self.alloc; "{}", number)?;
-        self.out.push_str(digits.as_str())?;
+        append(&mut self.out, digits.as_str())?;
         self.last = Spacing::Spaced;
         Ok(())
     }
@@ -146,7 +146,7 @@ impl Writer {
             (self.new ≡ with_piece self.old (pieces.token (terminals.quoted value.now))) }
         ensures extends { Extends self.old.text self.new.text }
     {
-        self.out.push_str(word_separator(self.last))?;
+        append(&mut self.out, word_separator(self.last))?;
         put_quoted(&mut self.out, value)?;
         self.last = Spacing::Spaced;
         Ok(())
@@ -162,8 +162,8 @@ impl Writer {
             (self.new ≡ with_piece self.old (pieces.token (terminals.symbol symbol))) }
         ensures extends { Extends self.old.text self.new.text }
     {
-        self.out.push_str(symbol_separator(self.last, symbol))?;
-        self.out.push_str(symbol.spelling())?;
+        append(&mut self.out, symbol_separator(self.last, symbol))?;
+        append(&mut self.out, symbol.spelling())?;
         self.last = match symbol {
             Symbol::OpenParen | Symbol::Dot => Spacing::Tight,
             _ => Spacing::Spaced,
@@ -182,7 +182,7 @@ impl Writer {
     {
         self.out
             .push_str(symbol_separator(self.last, Symbol::Minus))?;
-        self.out.push_str("-")?;
+        append(&mut self.out, "-")?;
         self.last = Spacing::Tight;
         Ok(())
     }
@@ -196,7 +196,7 @@ impl Writer {
         ensures written { OnOk result (self.new ≡ with_line_end self.old) }
         ensures extends { Extends self.old.text self.new.text }
     {
-        self.out.push_str("\n")?;
+        append(&mut self.out, "\n")?;
         self.last = Spacing::LineStart;
         Ok(())
     }
