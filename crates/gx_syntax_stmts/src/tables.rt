@@ -3,6 +3,7 @@
 ghost use Rattle.std.specs.Prelude.{◌≡◌};
 ghost use Rattle.gx_syntax_exprs.specs.Parses.{Parses, terminals_of};
 ghost use Rattle.gx_syntax_stmts.specs.Forms as forms;
+ghost use Rattle.gx_syntax_tree.specs.Forms as tree;
 ghost use Rattle.gx_syntax_tree.specs.declared.keyword.StmtKeyword.TheVariants as keywords;
 
 use crate::cursor::Cursor;
@@ -14,7 +15,7 @@ use gx_rows::Text;
 use std::alloc::Global;
 
 fn print_of(what: PrintTarget, name: Text) -> Stmt
-    ensures { result ≡ forms.print_of what name }
+    ensures { result ≡ tree.print_of what name }
 {
     match what {
         PrintTarget::Vertices => Stmt::PrintVertices { graph: name },
@@ -25,7 +26,7 @@ fn print_of(what: PrintTarget, name: Text) -> Stmt
 }
 
 fn count_of(what: CountTarget, name: Text) -> Stmt
-    ensures { result ≡ forms.count_of what name }
+    ensures { result ≡ tree.count_of what name }
 {
     match what {
         CountTarget::Vertices => Stmt::CountVertices { graph: name },
