@@ -5,7 +5,7 @@ use Rattle.gx_syntax_tokens.specs.Terminals.{Terminal, word, number, quoted, sym
 use Rattle.gx_syntax_tokens.specs.declared.symbol.Symbol.TheVariants as symbols
 use Rattle.gx_syntax_exprs.specs.Operators.{operator, infix_token, prefix_token, not_word}
 use Rattle.gx_syntax_tree.specs.Precedence.{binary_precedence, left_precedence, right_precedence, unary_precedence, operand_precedence}
-use Rattle.gx_syntax_exprs.specs.Grammar.{number_of, truth_of, matched_of, call_of, Spells, above, between, before, constant, quotation, yes, no, matching, column, call, group, SpellsArguments, none, some, SpellsFront, start, onward, is_name, fits}
+use Rattle.gx_syntax_exprs.specs.Grammar.{number_of, truth_of, matched_of, call_of, Spells, above, between, before, constant, quotation, yes, no, matching, column, call, group, SpellsArguments, none, some, SpellsFront, start, onward, is_name, fits_i64}
 use Rattle.gx_syntax_exprs.specs.PrecedenceParser.{continues, pending_precedence, apply, min_precedence, reduce, constant_word, is_dot, is_open, is_close, left_precedence_of, precedence_before, after_reduction, after_operand, outcome_at_end, outcome_then, transition, parse_from}
 use Rattle.gx_syntax_tree.specs.declared.expr.Expr.{Expr}
 use Rattle.gx_syntax_tree.specs.declared.expr.BinaryOp.{BinaryOp}
@@ -103,7 +103,7 @@ opens : (f : List ℕ) (st : List Frame) (ts : List Terminal) → IsTrue (is_nam
 unfolding parse_from transition
 opens f st ts h = let other : bytes_eq f not_word ≡ false = not_of (bytes_eq f not_word) h in rw other refl
 
-number_read : (n : ℕ) (st : List Frame) (rest : List Terminal) → IsTrue (fits n) → parse_from states.ExpectOperand st (number n ∷ rest) ≡ parse_from (states.AfterOperand (number_of n)) st rest
+number_read : (n : ℕ) (st : List Frame) (rest : List Terminal) → IsTrue (fits_i64 n) → parse_from states.ExpectOperand st (number n ∷ rest) ≡ parse_from (states.AfterOperand (number_of n)) st rest
 unfolding parse_from transition
 number_read n st rest h = rw h refl
 

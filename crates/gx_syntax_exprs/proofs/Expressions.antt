@@ -4,7 +4,8 @@ use Rattle.gx_syntax_tokens.specs.Terminals.{Terminal}
 use Rattle.gx_syntax_exprs.specs.Operators.{operator}
 use Rattle.gx_syntax_exprs.specs.Grammar.{Spells, constant}
 use Rattle.gx_syntax_exprs.specs.Combinators.{Ends, IsExact}
-use Rattle.gx_syntax_exprs.specs.PrecedenceParser.{done, is_dot, is_open, is_close, is_comma, on_delimiter, on_close_paren, on_comma, on_end, transition, parse_from, expression, goes_on, is_operator}
+use Rattle.gx_syntax_exprs.specs.PrecedenceParser.{done, is_dot, is_open, is_close, is_comma, on_delimiter, on_close_paren, on_comma, on_end, transition, parse_from}
+use Rattle.gx_syntax_exprs.specs.Expressions.{expression, goes_on, is_operator}
 use Rattle.gx_syntax_tree.specs.declared.expr.Expr.{Expr}
 use Rattle.gx_syntax_tree.specs.declared.expr.BinaryOp.{BinaryOp}
 use Rattle.gx_syntax_exprs.specs.declared.steps.State.TheVariants as states
@@ -41,6 +42,7 @@ has_all x (t ∷ ts) e =
     rw (none, after_ends t x) refl
 
 pub expression_exact : IsExact (Spells 1) goes_on expression
+unfolding expression
 expression_exact = record {
   keeps = record {
     some = record { rest = _; value = _; spells = lowered 1 8 (omega arith) (constant 0 refl) };

@@ -7,9 +7,9 @@ use Rattle.gx_syntax_tokens.specs.Terminals.{Terminal, word, number, quoted, sym
 use Rattle.gx_syntax_tokens.specs.declared.symbol.Symbol.TheVariants as symbols
 use Rattle.gx_syntax_exprs.specs.Operators.{operator, infix_token, prefix_token, not_word}
 use Rattle.gx_syntax_tree.specs.Precedence.{binary_precedence, left_precedence}
-use Rattle.gx_syntax_exprs.specs.Grammar.{number_of, call_of, Spells, between, before, constant, quotation, column, call, group, none, some, SpellsFront, start, onward, is_name, fits}
+use Rattle.gx_syntax_exprs.specs.Grammar.{number_of, call_of, Spells, between, before, constant, quotation, column, call, group, none, some, SpellsFront, start, onward, is_name, fits_i64}
 use Rattle.gx_syntax_exprs.specs.Combinators.{IsViablePrefix, IsSound}
-use Rattle.gx_syntax_exprs.specs.PrecedenceParser.{StepOutcome, continues, done, rejects, pending_precedence, pending_operand_precedence, apply, min_precedence, reduce, constant_word, is_dot, is_open, is_close, is_comma, is_minus, on_close_paren, on_comma, on_end, on_operator, on_delimiter, on_settled, after_reduction, after_operand, on_atom, on_operand_start, on_empty_call, on_constant_word, on_not, after_word, after_dot, left_precedence_of, precedence_before, outcome_at_end, outcome_then, transition, parse_from, expression}
+use Rattle.gx_syntax_exprs.specs.PrecedenceParser.{StepOutcome, continues, done, rejects, pending_precedence, pending_operand_precedence, apply, min_precedence, reduce, constant_word, is_dot, is_open, is_close, is_comma, is_minus, on_close_paren, on_comma, on_end, on_operator, on_delimiter, on_settled, after_reduction, after_operand, on_atom, on_operand_start, on_empty_call, on_constant_word, on_not, after_word, after_dot, left_precedence_of, precedence_before, outcome_at_end, outcome_then, transition, parse_from}
 use Rattle.gx_syntax_tree.specs.declared.expr.Expr.{Expr}
 use Rattle.gx_syntax_tree.specs.declared.expr.BinaryOp.{BinaryOp}
 use Rattle.gx_syntax_tree.specs.declared.expr.UnaryOp.{UnaryOp}
@@ -198,9 +198,9 @@ good_single : {st : List Frame} {p : List Terminal} → Stands st p → (t : Ter
 good_single {st} {p} s (word w) = at_named w s
 good_single {st} {p} s (quoted q) = at_have s (quotation q)
 good_single {st} {p} s (symbol q) = alive_want p s
-good_single {st} {p} s (number n) = go (fits n) refl
+good_single {st} {p} s (number n) = go (fits_i64 n) refl
   where
-    go : (c : Bool) → fits n ≡ c → Good p (Some (number n)) (if c then continues (states.AfterOperand (number_of n)) st else rejects)
+    go : (c : Bool) → fits_i64 n ≡ c → Good p (Some (number n)) (if c then continues (states.AfterOperand (number_of n)) st else rejects)
     go true e = at_have s (constant n e)
     go false e = alive_want p s
 
@@ -317,5 +317,5 @@ unfolding parse_from
 says [] {s} {st} {p} h = says_finished p (transition s st None) (good_step h None)
 says (t ∷ ts) {s} {st} {p} h = says_answered p t ts (λ s' st'. parse_from s' st' ts) (transition s st (Some t)) (good_step h (Some t)) (λ s' st' g. says ts g)
 
-pub tells : (ts : List Terminal) → IsSound (Spells 1) ts (expression ts)
+pub tells : (ts : List Terminal) → IsSound (Spells 1) ts (parse_from states.ExpectOperand [] ts)
 tells ts = says ts (at_want base)

@@ -35,8 +35,8 @@ abbrev pub binary_of : BinaryOp → Expr → Expr → Expr
 binary_of o a b = roll-Expr (layer.Binary o a b)
 
 -- a number that an `i64` holds
-abbrev pub fits : ℕ → Bool
-fits n = nat_lt n 9223372036854775808
+abbrev pub fits_i64 : ℕ → Bool
+fits_i64 n = nat_lt n 9223372036854775808
 
 -- a name that may stand before the arguments of a call
 abbrev pub is_name : List ℕ → Bool
@@ -48,7 +48,7 @@ mutual
     above : {l : ℕ} {ts : List Terminal} {x : Expr} → Spells (suc l) ts x → Spells l ts x
     between : {ts us : List Terminal} {a b : Expr} → (o : BinaryOp) → Spells (left_precedence o) ts a → Spells (right_precedence o) us b → Spells (binary_precedence o) (ts ++ infix_token o ∷ us) (binary_of o a b)
     before : {ts : List Terminal} {a : Expr} → (o : UnaryOp) → Spells (operand_precedence o) ts a → Spells (unary_precedence o) (prefix_token o ∷ ts) (unary_of o a)
-    constant : (n : ℕ) → IsTrue (fits n) → Spells 8 (number n ∷ []) (number_of n)
+    constant : (n : ℕ) → IsTrue (fits_i64 n) → Spells 8 (number n ∷ []) (number_of n)
     quotation : (s : List ℕ) → Spells 8 (quoted s ∷ []) (quoted_of s)
     yes : Spells 8 (word (codes "true") ∷ []) (truth_of true)
     no : Spells 8 (word (codes "false") ∷ []) (truth_of false)

@@ -4,3 +4,5 @@ pub mod Parses
 pub mod Operators
 pub mod Combinators
 pub mod PrecedenceParser
+pub mod TokenParsers
+pub mod Expressions

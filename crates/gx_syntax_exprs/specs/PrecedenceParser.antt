@@ -4,7 +4,7 @@ use Rattle.gx_syntax_tokens.specs.Terminals.{Terminal, word, number, quoted, sym
 use Rattle.gx_syntax_tokens.specs.declared.symbol.Symbol.TheVariants as symbols
 use Rattle.gx_syntax_exprs.specs.Operators.{operator, not_word}
 use Rattle.gx_syntax_tree.specs.Precedence.{binary_precedence, left_precedence, right_precedence, unary_precedence, operand_precedence}
-use Rattle.gx_syntax_exprs.specs.Grammar.{number_of, quoted_of, truth_of, matched_of, column_of, call_of, unary_of, binary_of, fits}
+use Rattle.gx_syntax_exprs.specs.Grammar.{number_of, quoted_of, truth_of, matched_of, column_of, call_of, unary_of, binary_of, fits_i64}
 use Rattle.gx_syntax_tree.specs.declared.expr.BinaryOp.{BinaryOp}
 use Rattle.gx_syntax_tree.specs.declared.expr.UnaryOp.TheVariants as unary
 use Rattle.gx_syntax_tree.specs.declared.expr.Expr.{Expr}
@@ -128,7 +128,7 @@ after_operand x st t = after_reduction t (reduce (precedence_before t) x st).0 (
 -- where an operand is wanted: a token that is no symbol
 abbrev pub on_atom : Terminal → List Frame → StepOutcome
 on_atom (word w) st = continues (states.AfterWord w) st
-on_atom (number n) st = if fits n then continues (states.AfterOperand (number_of n)) st else rejects
+on_atom (number n) st = if fits_i64 n then continues (states.AfterOperand (number_of n)) st else rejects
 on_atom (quoted s) st = continues (states.AfterOperand (quoted_of s)) st
 on_atom (symbol s) st = rejects
 
@@ -203,14 +203,3 @@ outcome_then next left_precedence rejects = Err left_precedence
 unfoldable pub parse_from : State → List Frame → List Terminal → Result (Expr × List Terminal) (List Terminal)
 parse_from s st [] = outcome_at_end (transition s st None)
 parse_from s st (t ∷ ts) = outcome_then (λ s' st'. parse_from s' st' ts) (t ∷ ts) (transition s st (Some t))
-
-abbrev pub expression : List Terminal → Result (Expr × List Terminal) (List Terminal)
-expression ts = parse_from states.ExpectOperand [] ts
-
--- the tokens with which an expression may go on
-abbrev pub is_operator : Option BinaryOp → Bool
-is_operator None = false
-is_operator (Some o) = true
-
-abbrev pub goes_on : Terminal → Bool
-goes_on t = is_operator (operator t) || (is_dot t || is_open t)

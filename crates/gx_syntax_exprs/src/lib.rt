@@ -8,13 +8,14 @@
 //! trees; the reader of statements, the printer and the checks of types stand on it.
 #![tactic(auto)]
 
+mod cursor;
 mod expression;
-mod parse_stop;
 mod marks;
 mod operators;
+mod parse_stop;
 mod stack;
 mod steps;
 
-pub use expression::parse_expression;
-pub use parse_stop::ParseStop;
+pub use cursor::{Cursor, Keyword};
 pub use marks::{is_close, is_comma, is_dot, is_minus, is_open};
+pub use parse_stop::ParseStop;

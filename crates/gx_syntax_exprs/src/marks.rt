@@ -4,7 +4,7 @@ ghost use Rattle.std.specs.Prelude.{◌≡◌};
 ghost use Rattle.gx_syntax_tokens.specs.TokenTexts.{terminal_of};
 ghost use Rattle.gx_syntax_exprs.specs.PrecedenceParser as reading;
 
-use gx_syntax_tokens::{TokenValue, Symbol};
+use gx_syntax_tokens::{Symbol, TokenValue};
 
 /// Whether a token is `.`.
 pub fn is_dot(token: TokenValue<'_>) -> bool

@@ -4,8 +4,8 @@ ghost use Rattle.std.specs.Prelude.{◌≡◌};
 ghost use Rattle.gx_syntax_tokens.specs.TokenTexts.{terminal_of};
 ghost use Rattle.gx_syntax_exprs.specs.Operators as grammar;
 
+use gx_syntax_tokens::{Symbol, TokenValue};
 use gx_syntax_tree::{BinaryOp, UnaryOp};
-use gx_syntax_tokens::{TokenValue, Symbol};
 
 /// The operator between operands that a word is.
 fn word_operator(word: &str) -> Option<BinaryOp>

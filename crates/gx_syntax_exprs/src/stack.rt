@@ -5,8 +5,8 @@ ghost use Rattle.gx_syntax_exprs.specs.Operators as grammar;
 ghost use Rattle.gx_syntax_exprs.specs.Grammar.{binary_of, unary_of};
 ghost use Rattle.gx_syntax_exprs.specs.PrecedenceParser.{apply, pending_operand_precedence, pending_at_least, min_precedence, reduce, pending_precedence};
 
-use gx_syntax_tree::{BinaryOp, Expr, UnaryOp};
 use gx_rows::{NoMemory, Text};
+use gx_syntax_tree::{BinaryOp, Expr, UnaryOp};
 use sqlite_items::{Boxed, Items};
 use std::alloc::Global;
 use std::marker::Model;

@@ -9,10 +9,10 @@ ghost use Rattle.gx_syntax_exprs.specs.StepOutcomes.{outcome_of};
 
 use crate::marks::{is_close, is_comma, is_dot, is_minus, is_open};
 use crate::operators::operator;
-use crate::stack::{Frame, Stack, Pending, reduce};
-use gx_syntax_tree::{BinaryOp, Expr, UnaryOp};
+use crate::stack::{Frame, Pending, Stack, reduce};
 use gx_rows::{NoMemory, Text};
 use gx_syntax_tokens::{TokenValue, unescape};
+use gx_syntax_tree::{BinaryOp, Expr, UnaryOp};
 use sqlite_items::Items;
 use std::alloc::Global;
 
@@ -130,7 +130,12 @@ fn on_delimiter(stack: &mut Stack, token: TokenValue<'_>, x: Expr) -> Result<Ste
 }
 
 /// Behind an operand: a token.
-fn on_other(alloc: Global, stack: &mut Stack, x: Expr, token: TokenValue<'_>) -> Result<Step, NoMemory>
+fn on_other(
+    alloc: Global,
+    stack: &mut Stack,
+    x: Expr,
+    token: TokenValue<'_>,
+) -> Result<Step, NoMemory>
     ensures { IfOk result (λ step. outcome_of step stack.new ≡ reading.after_operand x stack.old (Some (terminal_of token.entry))) }
 {
     match operator(token) {
@@ -176,13 +181,19 @@ fn on_atom(alloc: Global, token: TokenValue<'_>, stack: &mut Stack) -> Result<St
                 Ok(Step::Reject)
             }
         }
-        TokenValue::Quoted(raw) => Ok(Step::Continue(State::AfterOperand(Expr::Quoted(unescape(alloc, raw)?)))),
+        TokenValue::Quoted(raw) => Ok(Step::Continue(State::AfterOperand(Expr::Quoted(unescape(
+            alloc, raw,
+        )?)))),
         TokenValue::Symbol(_) => Ok(Step::Reject),
     }
 }
 
 /// Where an operand is wanted.
-fn on_operand_start(alloc: Global, token: TokenValue<'_>, stack: &mut Stack) -> Result<Step, NoMemory>
+fn on_operand_start(
+    alloc: Global,
+    token: TokenValue<'_>,
+    stack: &mut Stack,
+) -> Result<Step, NoMemory>
     ensures { IfOk result (λ step. outcome_of step stack.new ≡ reading.on_operand_start (terminal_of token.entry) stack.old) }
 {
     if is_open(token) {
@@ -204,7 +215,9 @@ fn on_empty_call(stack: &mut Stack) -> Step
     ensures { outcome_of result stack.new ≡ reading.on_empty_call stack.old }
 {
     match stack.pop() {
-        Some(Frame::Call(name, values)) => Step::Continue(State::AfterOperand(Expr::Call(name, values))),
+        Some(Frame::Call(name, values)) => Step::Continue(State::AfterOperand(Expr::Call(
+            name, values,
+        ))),
         Some(Frame::Paren) => Step::Reject,
         Some(Frame::Operator(_)) => Step::Reject,
         None => Step::Reject,
@@ -316,7 +329,11 @@ pub(crate) fn transition(
 
 /// The end of the tokens.
 #[tactic(auto, unfolding(crate::specs::PrecedenceParser::transition))]
-pub(crate) fn transition_at_end(alloc: Global, stack: &mut Stack, state: State) -> Result<Step, NoMemory>
+pub(crate) fn transition_at_end(
+    alloc: Global,
+    stack: &mut Stack,
+    state: State,
+) -> Result<Step, NoMemory>
     ensures { IfOk result (λ step. outcome_of step stack.new ≡ reading.transition state stack.old None) }
 {
     match state {
