@@ -1,21 +1,13 @@
 -- Parsers of one token: what the token must be, and the value that it stands for.
 use Rattle.std.specs.Prelude.{ℕ, ℤ, pos, Bool, true, false, if◌then◌else◌, Option, Some, None, List, [], ◌∷◌, bytes_eq}
-use Rattle.gx_syntax_tokens.specs.Terminals.{Terminal, word, number, quoted, symbol}
+use Rattle.gx_syntax_tokens.specs.Terminals.{Terminal, word, number, quoted, symbol, is_symbol}
 use Rattle.gx_syntax_tokens.specs.declared.symbol.Symbol.{Symbol}
-use Rattle.gx_syntax_tokens.specs.contracts.symbol.SymbolPartialEq.TheImpl as derived
 use Rattle.gx_syntax_exprs.specs.Grammar.{fits_i64}
 
 -- whether there is a next token, and it passes a test
 abbrev pub is_next : (Terminal → Bool) → List Terminal → Bool
 is_next test [] = false
 is_next test (t ∷ ts) = test t
-
--- whether a token is this symbol
-abbrev pub is_symbol : Symbol → Terminal → Bool
-is_symbol s (word w) = false
-is_symbol s (number n) = false
-is_symbol s (quoted v) = false
-is_symbol s (symbol t) = (derived.ghosts).eq t s
 
 -- whether a token is this word
 abbrev pub is_word : List ℕ → Terminal → Bool
@@ -44,7 +36,7 @@ name_value (number n) = None
 name_value (quoted s) = None
 name_value (symbol s) = None
 
--- a word that a table gives a meaning
+-- a word, by the value that it names
 abbrev pub keyword_value : {A : Type 0} → (List ℕ → Option A) → Terminal → Option A
 keyword_value meaning (word w) = meaning w
 keyword_value meaning (number n) = None

@@ -7,10 +7,11 @@
 //! end is refused. The cursor never sees the text of the script.
 
 ghost use Rattle.std.specs.Prelude.{◌≡◌, ◌∷◌, ◌<◌, ◌^◌, [], ℕ, List, Option, true, MatchOption, drop, length};
+ghost use Rattle.gx_syntax_tokens.specs.Terminals.{is_symbol};
 ghost use Rattle.gx_syntax_tokens.specs.TokenTexts.{terminal_of};
 ghost use Rattle.gx_syntax_exprs.specs.Combinators.{satisfy};
 ghost use Rattle.gx_syntax_exprs.specs.Parses.{Parses, terminals_of};
-ghost use Rattle.gx_syntax_exprs.specs.TokenParsers.{expected_symbol, expected_word, is_next, is_symbol, is_word, keyword_value, name_value, number_value, quoted_value};
+ghost use Rattle.gx_syntax_exprs.specs.TokenParsers.{expected_symbol, expected_word, is_next, is_word, keyword_value, name_value, number_value, quoted_value};
 
 use crate::parse_stop::ParseStop;
 use gx_rows::Text;
@@ -41,16 +42,6 @@ impl<'a> Model for Cursor<'a> {
     ghost Value = { List Terminal };
 
     ghost view = { λ c. terminals_of c.rest.now };
-}
-
-/// Whether a token is this symbol.
-fn is_symbol(token: TokenValue<'_>, symbol: Symbol) -> bool
-    ensures { result ≡ is_symbol symbol (terminal_of token.entry) }
-{
-    match token {
-        TokenValue::Symbol(found) => found == symbol,
-        _ => false,
-    }
 }
 
 /// Whether a token is this word.
@@ -114,7 +105,7 @@ impl<'a> Cursor<'a> {
     {
         match self.rest {
             [] => false,
-            [placed, ..] => is_symbol(placed.value, symbol),
+            [placed, ..] => placed.value.is(symbol),
         }
     }
 
@@ -137,7 +128,7 @@ impl<'a> Cursor<'a> {
         ensures { Parses result self.new (satisfy (expected_symbol symbol) self.old) }
     {
         if let [placed, others @ ..] = self.rest
-            && is_symbol(placed.value, symbol)
+            && placed.value.is(symbol)
         {
             self.rest = others;
             Ok(())

@@ -3,7 +3,8 @@
 ghost use Rattle.std.specs.Prelude.{◌≡◌, IfOk};
 ghost use Rattle.gx_syntax_exprs.specs.StepOutcomes.{outcome_of};
 ghost use Rattle.gx_syntax_exprs.specs.Expressions.{expression};
-ghost use Rattle.gx_syntax_exprs.specs.Parses.{Parses};
+ghost use Rattle.gx_syntax_exprs.specs.Grammar.{Spells};
+ghost use Rattle.gx_syntax_exprs.specs.Parses.{FollowsGrammar, Parses};
 ghost use Rattle.gx_syntax_exprs.specs.PrecedenceParser as reading;
 
 use crate::cursor::Cursor;
@@ -36,7 +37,8 @@ impl<'a> Cursor<'a> {
     /// `Refused`, and `NoMemory`.
     #[tactic(auto, unfolding(crate::specs::Expressions::expression))]
     pub fn expression(&mut self, alloc: Global) -> Result<Expr, ParseStop>
-        ensures { Parses result self.new (expression self.old) }
+        ensures parsed { Parses result self.new (expression self.old) }
+        ensures spelled { FollowsGrammar (Spells 1) result self.new self.old }
     {
         let mut stack = Stack::new(alloc);
         let mut state = State::ExpectOperand;

@@ -10,12 +10,12 @@
 
 mod cursor;
 mod expression;
-mod marks;
+mod laws;
 mod operators;
 mod parse_stop;
 mod stack;
 mod steps;
 
 pub use cursor::{Cursor, Keyword};
-pub use marks::{is_close, is_comma, is_dot, is_minus, is_open};
+pub use laws::expressions_are_parsed_exactly;
 pub use parse_stop::ParseStop;

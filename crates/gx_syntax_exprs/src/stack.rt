@@ -2,7 +2,7 @@
 
 ghost use Rattle.std.specs.Prelude.{◌≡◌, ◌∷◌, [], None, Some, MatchOption, OnOk, IfOk};
 ghost use Rattle.gx_syntax_exprs.specs.Operators as grammar;
-ghost use Rattle.gx_syntax_exprs.specs.Grammar.{binary_of, unary_of};
+ghost use Rattle.gx_syntax_exprs.specs.Grammar.{binary_expr, unary_expr};
 ghost use Rattle.gx_syntax_exprs.specs.PrecedenceParser.{apply, pending_operand_precedence, pending_at_least, min_precedence, reduce, pending_precedence};
 
 use gx_rows::{NoMemory, Text};

@@ -7,11 +7,10 @@ ghost use Rattle.gx_syntax_exprs.specs.Grammar as grammar;
 ghost use Rattle.gx_syntax_exprs.specs.PrecedenceParser as reading;
 ghost use Rattle.gx_syntax_exprs.specs.StepOutcomes.{outcome_of};
 
-use crate::marks::{is_close, is_comma, is_dot, is_minus, is_open};
 use crate::operators::operator;
 use crate::stack::{Frame, Pending, Stack, reduce};
 use gx_rows::{NoMemory, Text};
-use gx_syntax_tokens::{TokenValue, unescape};
+use gx_syntax_tokens::{Symbol, TokenValue, unescape};
 use gx_syntax_tree::{BinaryOp, Expr, UnaryOp};
 use sqlite_items::Items;
 use std::alloc::Global;
@@ -120,9 +119,9 @@ fn on_operator(stack: &mut Stack, operator: BinaryOp, x: Expr) -> Result<Step, N
 fn on_delimiter(stack: &mut Stack, token: TokenValue<'_>, x: Expr) -> Result<Step, NoMemory>
     ensures { IfOk result (λ step. outcome_of step stack.new ≡ reading.on_delimiter (terminal_of token.entry) x stack.old) }
 {
-    if is_close(token) {
+    if token.is(Symbol::CloseParen) {
         on_close_paren(stack, x)
-    } else if is_comma(token) {
+    } else if token.is(Symbol::Comma) {
         on_comma(stack, x)
     } else {
         Ok(on_end(stack, x))
@@ -196,10 +195,10 @@ fn on_operand_start(
 ) -> Result<Step, NoMemory>
     ensures { IfOk result (λ step. outcome_of step stack.new ≡ reading.on_operand_start (terminal_of token.entry) stack.old) }
 {
-    if is_open(token) {
+    if token.is(Symbol::OpenParen) {
         stack.push(Frame::Paren)?;
         Ok(Step::Continue(State::ExpectOperand))
-    } else if is_minus(token) {
+    } else if token.is(Symbol::Minus) {
         if stack.min_precedence() > 7 {
             return Ok(Step::Reject);
         }
@@ -259,11 +258,11 @@ fn after_word(
 ) -> Result<Step, NoMemory>
     ensures { IfOk result (λ step. outcome_of step stack.new ≡ reading.after_word word stack.old (Some (terminal_of token.entry))) }
 {
-    if is_dot(token) {
+    if token.is(Symbol::Dot) {
         Ok(Step::Continue(State::AfterDot(word)))
     } else if is_not(word.as_str()) {
         on_not(alloc, stack, token)
-    } else if is_open(token) {
+    } else if token.is(Symbol::OpenParen) {
         stack.push(Frame::Call(word, Items::new(alloc)))?;
         Ok(Step::Continue(State::AfterCallParen))
     } else {
@@ -315,7 +314,7 @@ pub(crate) fn transition(
     match state {
         State::ExpectOperand => on_operand_start(alloc, token, stack),
         State::AfterCallParen => {
-            if is_close(token) {
+            if token.is(Symbol::CloseParen) {
                 Ok(on_empty_call(stack))
             } else {
                 on_operand_start(alloc, token, stack)

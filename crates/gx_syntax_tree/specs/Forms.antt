@@ -139,7 +139,6 @@ stmt_of keywords.LeftJoin v = stmts.LeftJoin v.0 v.1.0 v.1.1.0 v.1.1.1.0 v.1.1.1
 stmt_of keywords.Print v = print_of v.0 v.1.0
 stmt_of keywords.Count v = count_of v.0 v.1.0
 
-
 -- a statement as its keyword and the values of its parts
 pub record StmtView : Type 0 where
   pub keyword : StmtKeyword

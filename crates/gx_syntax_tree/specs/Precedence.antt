@@ -1,5 +1,6 @@
 -- How tightly operators bind: `or`, `and`, `not`, comparisons, sums, products, the sign, from 1 to 7.
-use Rattle.std.specs.Prelude.{ℕ}
+use Rattle.std.specs.Prelude.{ℕ, ◌≤◌}
+use Rattle.std.proofs.Common.{lit≤}
 use Rattle.gx_syntax_tree.specs.declared.expr.BinaryOp.{BinaryOp}
 use Rattle.gx_syntax_tree.specs.declared.expr.BinaryOp.TheVariants as binary
 use Rattle.gx_syntax_tree.specs.declared.expr.UnaryOp.{UnaryOp}
@@ -63,3 +64,16 @@ unary_precedence unary.Neg = 7
 abbrev pub operand_precedence : UnaryOp → ℕ
 operand_precedence unary.Not = 4
 operand_precedence unary.Neg = 8
+
+-- operands of level 8 may stand anywhere
+pub left_precedence-at_most_8 : (o : BinaryOp) → left_precedence o ≤ 8
+left_precedence-at_most_8 binary.Or = lit≤ tt
+left_precedence-at_most_8 _ = lit≤ tt
+
+pub right_precedence-at_most_8 : (o : BinaryOp) → right_precedence o ≤ 8
+right_precedence-at_most_8 binary.Or = lit≤ tt
+right_precedence-at_most_8 _ = lit≤ tt
+
+pub operand_precedence-at_most_8 : (o : UnaryOp) → operand_precedence o ≤ 8
+operand_precedence-at_most_8 unary.Not = lit≤ tt
+operand_precedence-at_most_8 unary.Neg = lit≤ tt

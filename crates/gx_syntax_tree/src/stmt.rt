@@ -1,8 +1,8 @@
 //! Statements.
 
-use crate::constant::{Const, ColumnConst};
+use crate::constant::{ColumnConst, Const};
 use crate::expr::Expr;
-use crate::parts::{ColumnDecl, ColumnMerge, SendClause, ColumnExpr};
+use crate::parts::{ColumnDecl, ColumnExpr, ColumnMerge, SendClause};
 use crate::words::{ActiveWord, CutWord, NeighbourWord};
 use gx_rows::Text;
 use sqlite_items::Items;
