@@ -1,5 +1,5 @@
 -- The table of levels, and the reduction of pending operators.
-use Rattle.std.proofs.Common.{◌≡◌, ℕ, suc, zero, ◌<◌, ◌≤◌, ◌+◌, ◌-◌, Bool, true, false, not, IsTrue, if◌then◌else◌, Option, Some, None, List, [], ◌∷◌, refl, subst, arith, nat_le, bytes_eq}
+use Rattle.std.proofs.Common.{◌≡◌, ℕ, ◌<◌, ◌≤◌, Bool, true, false, not, IsTrue, if◌then◌else◌, Option, Some, None, List, [], ◌∷◌, refl, arith, nat_le, bytes_eq}
 use Rattle.std.proofs.lemmas.Bool.{le-leb, leb-true}
 use Rattle.std.proofs.lemmas.Slice.Eq.{bytes_eq-Decides}
 use Rattle.std.proofs.Common.{codes}
@@ -7,7 +7,7 @@ use Rattle.gx_syntax_tokens.specs.Terminals.{Terminal, word, number, quoted, sym
 use Rattle.gx_syntax_tokens.specs.declared.symbol.Symbol.TheVariants as symbols
 use Rattle.gx_syntax_exprs.specs.Operators.{operator, word_operator, infix_token, not_word}
 use Rattle.gx_syntax_tree.specs.Precedence.{binary_precedence, left_precedence, right_precedence, unary_precedence, operand_precedence, left_precedence-at_most_8, right_precedence-at_most_8, operand_precedence-at_most_8}
-use Rattle.gx_syntax_exprs.specs.Grammar.{truth_expr, matched_expr, Spells, looser, true_literal, false_literal, matched_literal, is_call_name}
+use Rattle.gx_syntax_exprs.specs.Grammar.{truth_expr, matched_expr, Spells, true_literal, false_literal, matched_literal, is_call_name}
 use Rattle.gx_syntax_exprs.specs.PrecedenceParser.{pending_precedence, pending_operand_precedence, apply, min_precedence, reduce, constant_word, left_precedence_of, precedence_before}
 use Rattle.gx_syntax_tree.specs.declared.expr.Expr.{Expr}
 use Rattle.gx_syntax_tree.specs.declared.expr.BinaryOp.{BinaryOp}

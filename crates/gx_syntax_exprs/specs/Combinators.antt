@@ -1,10 +1,11 @@
--- Parser combinators over tokens of any type, languages, and what it means that a parser is exact for a language.
+-- Parser combinators over tokens of any type, languages, and what it means that a parser is exact
+-- for a language.
 --
--- A parser returns the value that it parsed and the rest of the tokens, or the tokens from the refused one on. A
--- language says which tokens spell which value. To add a combinator, define it beside the language that it parses,
--- and prove in specs/ExactParsers.antt that it is exact if its parts are: parsers that are put together from exact
--- ones then need no proof of their own.
-use Rattle.std.specs.Prelude.{◌≡◌, ℕ, zero, suc, Bool, true, false, if◌then◌else◌, ◌||◌, ◌⊎◌, Option, Some, None, Result, Ok, Err, List, [], ◌∷◌, ◌++◌, length}
+-- A parser returns the value that it parsed and the rest of the tokens, or the tokens from the
+-- refused one on. A language says which tokens spell which value. To add a combinator, define it
+-- beside the language that it parses, and prove in specs/ExactParsers.antt that it is exact if its
+-- parts are: parsers that are put together from exact ones then need no proof of their own.
+use Rattle.std.specs.Prelude.{◌≡◌, ℕ, zero, suc, Bool, true, false, if◌then◌else◌, ◌⊎◌, Option, Some, None, Result, Ok, Err, List, [], ◌∷◌, ◌++◌, length}
 
 abbrev pub Parser : Type 0 → Type 0 → Type 0
 Parser T A = List T → Result (A × List T) (List T)
@@ -97,7 +98,8 @@ pub record IsStuck {T A : Type 0} (L : List T → A → Type 0) (ts : List T) (r
   pub whole : ts ≡ consumed ++ rest
   pub viable : IsViablePrefix L consumed
 
--- no word begins with the consumed tokens and the next one; if there is no next one, the consumed tokens are not a word
+-- no word begins with the consumed tokens and the next one; if there is no next one, the consumed
+-- tokens are not a word
 abbrev pub NoWordContinues : {T A : Type 0} → (List T → A → Type 0) → List T → List T → Type 0
 NoWordContinues {A = A} L consumed [] = (x : A) → ¬ L consumed x
 NoWordContinues L consumed (t ∷ rest) = ¬ IsViablePrefix L (consumed ++ t ∷ [])

@@ -1,4 +1,5 @@
--- Parsers that are put together from exact parsers are exact. The theory holds for tokens and values of any type.
+-- Parsers that are put together from exact parsers are exact. The theory holds for tokens and
+-- values of any type.
 use Rattle.std.proofs.Common.{◌≡◌, ◌≤◌, ◌-◌, Bool, true, false, if◌then◌else◌, ◌||◌, inl, inr, Option, Some, None, Result, Ok, Err, List, [], ◌∷◌, ◌++◌, length, take, drop, refl, sym, ◌∙◌, ap, subst, append_assoc, arith, length-append}
 use Rattle.std.proofs.Math.Seq.{take-append_seam, drop-append_seam}
 use Rattle.std.proofs.lemmas.List.{append-nil}

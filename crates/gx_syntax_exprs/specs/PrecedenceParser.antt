@@ -1,9 +1,11 @@
--- How expressions are parsed: token by token, by operator precedence, with a stack of what was begun and not ended.
+-- How expressions are parsed: token by token, by operator precedence, with a stack of what was
+-- begun and not ended.
 --
--- These are the definitions of the private functions of src/stack.rt and src/steps.rt. Crates above cite
--- specs/Expressions.antt, which says what is parsed, and not how. A new operator needs no change here. A new kind of
--- operand needs a branch in `on_atom` or `after_word`, and a state if it has several tokens.
-use Rattle.std.specs.Prelude.{ℕ, Bool, true, false, nat_le, ◌||◌, if◌then◌else◌, Option, Some, None, List, [], ◌∷◌, ◌++◌, Result, Ok, Err, codes, bytes_eq}
+-- These are the definitions of the private functions of src/stack.rt and src/steps.rt. Crates above
+-- cite specs/Expressions.antt, which says what is parsed, and not how. A new operator needs no
+-- change here. A new kind of operand needs a branch in `on_atom` or `after_word`, and a state if it
+-- has several tokens.
+use Rattle.std.specs.Prelude.{◌≡◌, ℕ, true, false, nat_le, if◌then◌else◌, Option, Some, None, List, [], ◌∷◌, ◌++◌, Result, Ok, Err, codes, bytes_eq}
 use Rattle.gx_syntax_tokens.specs.Terminals.{Terminal, word, number, quoted, symbol, is_symbol}
 use Rattle.gx_syntax_tokens.specs.declared.symbol.Symbol.TheVariants as symbols
 use Rattle.gx_syntax_exprs.specs.Operators.{operator, not_word}
@@ -48,6 +50,16 @@ pending_at_least k (frames.Operator w ∷ st) = if nat_le k (pending_precedence 
 pending_at_least k (frames.Paren ∷ st) = None
 pending_at_least k (frames.Call f xs ∷ st) = None
 
+-- the innermost part is removed, if there is one
+abbrev pub Pops : List Frame → Option Frame → List Frame → Type 0
+Pops before None after = (before ≡ []) × (after ≡ [])
+Pops before (Some f) after = before ≡ f ∷ after
+
+-- the innermost operation is removed, if its level is at least k
+abbrev pub PopsPending : ℕ → List Frame → Option Pending → List Frame → Type 0
+PopsPending k before None after = (pending_at_least k before ≡ None) × (after ≡ before)
+PopsPending k before (Some w) after = pending_at_least k before ≡ Some (w, after)
+
 -- the operations of level k and more that end with x, applied
 abbrev pub reduce : ℕ → Expr → List Frame → Expr × List Frame
 reduce k x [] = (x, [])
@@ -55,7 +67,8 @@ reduce k x (frames.Operator w ∷ st) = if nat_le k (pending_precedence w) then 
 reduce k x (frames.Paren ∷ st) = (x, frames.Paren ∷ st)
 reduce k x (frames.Call f xs ∷ st) = (x, frames.Call f xs ∷ st)
 
--- what one token does: the expression goes on, or it ended before the token, or the token is refused
+-- what one token does: the expression goes on, or it ended before the token, or the token is
+-- refused
 pub data StepOutcome : Type 0 where
   continues : State → List Frame → StepOutcome
   done : Expr → StepOutcome
@@ -134,6 +147,10 @@ constant_word w = if bytes_eq w (codes "true") then Some (truth_expr true) else 
 abbrev pub on_constant_word : Option Expr → List Frame → Option Terminal → StepOutcome
 on_constant_word None st t = rejects
 on_constant_word (Some x) st t = after_operand x st t
+
+-- after a word that is neither a side nor the name of a call
+abbrev pub on_lone_word : List ℕ → List Frame → Option Terminal → StepOutcome
+on_lone_word w st t = on_constant_word (constant_word w) st t
 
 -- after the word `not`, if no `.` follows
 abbrev pub on_not : List Frame → Option Terminal → StepOutcome

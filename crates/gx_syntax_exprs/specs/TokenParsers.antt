@@ -1,13 +1,20 @@
 -- Parsers of one token: what the token must be, and the value that it stands for.
-use Rattle.std.specs.Prelude.{ℕ, ℤ, pos, Bool, true, false, if◌then◌else◌, Option, Some, None, List, [], ◌∷◌, bytes_eq}
+use Rattle.std.specs.Prelude.{◌≡◌, ℕ, ℤ, pos, Bool, true, false, if◌then◌else◌, Option, Some, None, List, [], ◌∷◌, bytes_eq, drop}
 use Rattle.gx_syntax_tokens.specs.Terminals.{Terminal, word, number, quoted, symbol, is_symbol}
 use Rattle.gx_syntax_tokens.specs.declared.symbol.Symbol.{Symbol}
+use Rattle.gx_syntax_tokens.specs.TokenTexts.{terminal_of}
+use Rattle.gx_syntax_tokens.specs.declared.token_value.TokenValue.{TokenValue}
 use Rattle.gx_syntax_exprs.specs.Grammar.{fits_i64}
 
 -- whether there is a next token, and it passes a test
 abbrev pub is_next : (Terminal → Bool) → List Terminal → Bool
 is_next test [] = false
 is_next test (t ∷ ts) = test t
+
+-- the next token, if there is one
+abbrev pub Peeks : Option TokenValue → List Terminal → Type 0
+Peeks None ts = ts ≡ []
+Peeks (Some value) ts = ts ≡ terminal_of value ∷ drop 1 ts
 
 -- whether a token is this word
 abbrev pub is_word : List ℕ → Terminal → Bool

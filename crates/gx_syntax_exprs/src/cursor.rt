@@ -1,17 +1,17 @@
 //! A cursor over the tokens of a script.
 //!
-//! `Cursor` borrows a list of tokens and parses from its start: each method takes the tokens that it
-//! names and leaves the rest. Contracts see it as the list of the tokens that remain, without their
-//! offsets, so the clause of each parser reads `Parses result self.new (definition self.old)`. If a
-//! method refuses, the first of the tokens that remain is the refused one, and if none remains, the
-//! end is refused. The cursor never sees the text of the script.
+//! `Cursor` borrows a list of tokens and parses from its start: each method takes the tokens that
+//! it names and leaves the rest. Contracts see it as the list of the tokens that remain, without
+//! their offsets, so the clause of each parser reads `Parses result self.new (definition
+//! self.old)`. If a method refuses, the first of the tokens that remain is the refused one, and if
+//! none remains, the end is refused. The cursor never sees the text of the script.
 
-ghost use Rattle.std.specs.Prelude.{◌≡◌, ◌∷◌, ◌<◌, ◌^◌, [], ℕ, List, Option, true, MatchOption, drop, length};
+ghost use Rattle.std.specs.Prelude.{◌≡◌, ◌<◌, ◌^◌, ℕ, List, Option, true, drop, length};
 ghost use Rattle.gx_syntax_tokens.specs.Terminals.{is_symbol};
 ghost use Rattle.gx_syntax_tokens.specs.TokenTexts.{terminal_of};
 ghost use Rattle.gx_syntax_exprs.specs.Combinators.{satisfy};
 ghost use Rattle.gx_syntax_exprs.specs.Parses.{Parses, terminals_of};
-ghost use Rattle.gx_syntax_exprs.specs.TokenParsers.{expected_symbol, expected_word, is_next, is_word, keyword_value, name_value, number_value, quoted_value};
+ghost use Rattle.gx_syntax_exprs.specs.TokenParsers as token;
 
 use crate::parse_stop::ParseStop;
 use gx_rows::Text;
@@ -45,10 +45,10 @@ impl<'a> Model for Cursor<'a> {
 }
 
 /// Whether a token is this word.
-fn is_word(token: TokenValue<'_>, word: &str) -> bool
-    ensures { result ≡ is_word word.now (terminal_of token.entry) }
+fn is_word(value: TokenValue<'_>, word: &str) -> bool
+    ensures { result ≡ token.is_word word.now (terminal_of value.entry) }
 {
-    match token {
+    match value {
         TokenValue::Word(found) => found == word,
         _ => false,
     }
@@ -72,7 +72,7 @@ impl<'a> Cursor<'a> {
 
     /// Whether a token remains.
     pub fn has_next(&self) -> bool
-        ensures { result ≡ is_next (λ t. true) self.now }
+        ensures { result ≡ token.is_next (λ t. true) self.now }
     {
         match self.rest {
             [] => false,
@@ -82,7 +82,7 @@ impl<'a> Cursor<'a> {
 
     /// The next token; `None` at the end.
     pub fn peek(&self) -> Option<TokenValue<'a>>
-        ensures { MatchOption result (self.now ≡ []) (λ t. self.now ≡ terminal_of t ∷ drop 1 self.now) }
+        ensures { token.Peeks result self.now }
     {
         match self.rest {
             [] => None,
@@ -101,7 +101,7 @@ impl<'a> Cursor<'a> {
 
     /// Whether the next token is this symbol.
     pub fn is_symbol_next(&self, symbol: Symbol) -> bool
-        ensures { result ≡ is_next (is_symbol symbol) self.now }
+        ensures { result ≡ token.is_next (is_symbol symbol) self.now }
     {
         match self.rest {
             [] => false,
@@ -111,7 +111,7 @@ impl<'a> Cursor<'a> {
 
     /// Whether the next token is this word.
     pub fn is_word_next(&self, word: &str) -> bool
-        ensures { result ≡ is_next (is_word word.now) self.now }
+        ensures { result ≡ token.is_next (token.is_word word.now) self.now }
     {
         match self.rest {
             [] => false,
@@ -125,7 +125,7 @@ impl<'a> Cursor<'a> {
     ///
     /// `Refused`.
     pub fn symbol(&mut self, symbol: Symbol) -> Result<(), ParseStop>
-        ensures { Parses result self.new (satisfy (expected_symbol symbol) self.old) }
+        ensures { Parses result self.new (satisfy (token.expected_symbol symbol) self.old) }
     {
         if let [placed, others @ ..] = self.rest
             && placed.value.is(symbol)
@@ -143,7 +143,7 @@ impl<'a> Cursor<'a> {
     ///
     /// `Refused`.
     pub fn keyword(&mut self, word: &str) -> Result<(), ParseStop>
-        ensures { Parses result self.new (satisfy (expected_word word.now) self.old) }
+        ensures { Parses result self.new (satisfy (token.expected_word word.now) self.old) }
     {
         if let [placed, others @ ..] = self.rest
             && is_word(placed.value, word)
@@ -161,7 +161,7 @@ impl<'a> Cursor<'a> {
     ///
     /// `Refused`.
     pub fn keyword_value<K: Keyword>(&mut self) -> Result<K, ParseStop>
-        ensures { Parses result self.new (satisfy (keyword_value K.meaning) self.old) }
+        ensures { Parses result self.new (satisfy (token.keyword_value K.meaning) self.old) }
     {
         if let [placed, others @ ..] = self.rest
             && let TokenValue::Word(word) = placed.value
@@ -180,7 +180,7 @@ impl<'a> Cursor<'a> {
     ///
     /// `Refused`, and `NoMemory`.
     pub fn name(&mut self, alloc: Global) -> Result<Text, ParseStop>
-        ensures { Parses result self.new (satisfy name_value self.old) }
+        ensures { Parses result self.new (satisfy token.name_value self.old) }
     {
         if let [placed, others @ ..] = self.rest
             && let TokenValue::Word(word) = placed.value
@@ -199,7 +199,7 @@ impl<'a> Cursor<'a> {
     ///
     /// `Refused`, and `NoMemory`.
     pub fn quoted(&mut self, alloc: Global) -> Result<Text, ParseStop>
-        ensures { Parses result self.new (satisfy quoted_value self.old) }
+        ensures { Parses result self.new (satisfy token.quoted_value self.old) }
     {
         if let [placed, others @ ..] = self.rest
             && let TokenValue::Quoted(raw) = placed.value
@@ -218,7 +218,7 @@ impl<'a> Cursor<'a> {
     ///
     /// `Refused`.
     pub fn number(&mut self) -> Result<i64, ParseStop>
-        ensures { Parses result self.new (satisfy number_value self.old) }
+        ensures { Parses result self.new (satisfy token.number_value self.old) }
     {
         if let [placed, others @ ..] = self.rest
             && let TokenValue::Number(n) = placed.value

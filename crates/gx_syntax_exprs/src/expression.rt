@@ -1,11 +1,12 @@
-//! Expressions.
+//! The parser of expressions: a loop over the tokens with an explicit stack, so that deep nesting
+//! costs heap and not the machine's stack.
 
-ghost use Rattle.std.specs.Prelude.{◌≡◌, IfOk};
-ghost use Rattle.gx_syntax_exprs.specs.StepOutcomes.{outcome_of};
+ghost use Rattle.std.specs.Prelude.{◌≡◌};
+ghost use Rattle.gx_syntax_exprs.specs.StepOutcomes.{StepsOver};
 ghost use Rattle.gx_syntax_exprs.specs.Expressions.{expression};
 ghost use Rattle.gx_syntax_exprs.specs.Grammar.{Spells};
 ghost use Rattle.gx_syntax_exprs.specs.Parses.{FollowsGrammar, Parses};
-ghost use Rattle.gx_syntax_exprs.specs.PrecedenceParser as reading;
+ghost use Rattle.gx_syntax_exprs.specs.PrecedenceParser as parser;
 
 use crate::cursor::Cursor;
 use crate::parse_stop::ParseStop;
@@ -18,7 +19,7 @@ use std::alloc::Global;
 impl<'a> Cursor<'a> {
     /// The next token, or the end, of an expression; the token is taken if the expression goes on.
     fn step(&mut self, alloc: Global, stack: &mut Stack, state: State) -> Result<Step, NoMemory>
-        ensures { IfOk result (λ step. (outcome_of step stack.new, self.new) ≡ reading.step_over state stack.old self.old) }
+        ensures { StepsOver result stack.new self.new (parser.step_over state stack.old self.old) }
     {
         let Some(token) = self.peek() else {
             return transition_at_end(alloc, stack, state);

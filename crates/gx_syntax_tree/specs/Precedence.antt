@@ -1,4 +1,5 @@
--- How tightly operators bind: `or`, `and`, `not`, comparisons, sums, products, the sign, from 1 to 7.
+-- How tightly operators bind, from 1 to 7: `or`, `and`, `not`, comparisons, sums, products, the
+-- sign. Operands that are not operations have level 8.
 use Rattle.std.specs.Prelude.{ℕ, ◌≤◌}
 use Rattle.std.proofs.Common.{lit≤}
 use Rattle.gx_syntax_tree.specs.declared.expr.BinaryOp.{BinaryOp}
@@ -22,7 +23,7 @@ binary_precedence binary.Mul = 6
 binary_precedence binary.Div = 6
 binary_precedence binary.Rem = 6
 
--- the least level of the operand before an operator: its own, so that chains group to the left, and
+-- the least level of the left operand: that of the operation, so that chains group to the left, and
 -- more for comparisons, which do not chain
 abbrev pub left_precedence : BinaryOp → ℕ
 left_precedence binary.Or = 1
@@ -39,7 +40,7 @@ left_precedence binary.Mul = 6
 left_precedence binary.Div = 6
 left_precedence binary.Rem = 6
 
--- the least level of the operand behind an operator
+-- the least level of the right operand
 abbrev pub right_precedence : BinaryOp → ℕ
 right_precedence binary.Or = 2
 right_precedence binary.And = 3
@@ -55,12 +56,12 @@ right_precedence binary.Mul = 7
 right_precedence binary.Div = 7
 right_precedence binary.Rem = 7
 
--- the level of an operation with its operator in front
+-- the level of an operation with a prefix operator
 abbrev pub unary_precedence : UnaryOp → ℕ
 unary_precedence unary.Not = 3
 unary_precedence unary.Neg = 7
 
--- the least level of its operand
+-- the least level of the operand of a prefix operator
 abbrev pub operand_precedence : UnaryOp → ℕ
 operand_precedence unary.Not = 4
 operand_precedence unary.Neg = 8
