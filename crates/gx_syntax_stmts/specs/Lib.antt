@@ -1,3 +1,4 @@
+pub mod TokenTests
 pub mod Keywords
 pub mod Parts
 pub mod Forms
