@@ -12,10 +12,10 @@ Column = List ℕ × ValueKind
 abbrev pub names_of : List Column → List (List ℕ)
 names_of columns = map (λ c. c.0) columns
 
--- no name stands twice
+-- no two columns have one name
 abbrev pub HasDistinctNames : List Column → Type 0
 HasDistinctNames columns = IsDistinct bytes_eq (names_of columns)
 
--- the first place of a name
-abbrev pub place_of : List ℕ → List (List ℕ) → Option ℕ
-place_of name names = position_from (λ n. bytes_eq n name) 0 names
+-- the first position of a name
+abbrev pub position_of : List ℕ → List (List ℕ) → Option ℕ
+position_of name names = position_from (λ n. bytes_eq n name) 0 names

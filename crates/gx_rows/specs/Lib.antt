@@ -1,2 +1,6 @@
+pub mod Cells
 pub mod Columns
-pub mod Steps
+pub mod Kinds
+pub mod Limits
+pub mod Order
+pub mod Results

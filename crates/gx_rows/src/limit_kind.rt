@@ -1,5 +1,8 @@
 //! The limits of a run.
 
+ghost use Rattle.std.specs.Prelude.{◌≡◌};
+ghost use Rattle.gx_rows.specs.Limits.{most_of};
+
 /// The limits of a run, each with its number.
 #[derive(Clone, Copy, Debug, PartialEq, Eq)]
 pub enum LimitKind {
@@ -31,4 +34,28 @@ pub enum LimitKind {
     Rounds,
     /// All `pregel` statements of a script together have at most 10,000 rounds.
     AllRounds,
+}
+
+impl LimitKind {
+    /// The number of the limit: the greatest that is within it.
+    pub fn most(&self) -> u64
+        ensures { result ≡ most_of self.now }
+    {
+        match self {
+            LimitKind::ScriptBytes => 1_048_576,
+            LimitKind::ScheduleBytes => 1_048_576,
+            LimitKind::Events => 1_000_000,
+            LimitKind::FileBytes => 33_554_432,
+            LimitKind::AllBytes => 67_108_864,
+            LimitKind::FileRows => 500_000,
+            LimitKind::AllRows => 1_000_000,
+            LimitKind::Columns => 16,
+            LimitKind::Sends => 16,
+            LimitKind::Statements => 1_000,
+            LimitKind::StatementTokens => 2_048,
+            LimitKind::Depth => 64,
+            LimitKind::Rounds => 1_000,
+            LimitKind::AllRounds => 10_000,
+        }
+    }
 }

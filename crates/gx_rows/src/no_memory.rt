@@ -1,8 +1,8 @@
-//! Want of memory.
+//! Out of memory.
 
 use std::alloc::{AllocError, AllocFailed};
 
-/// Want of memory: the one error of a call that can fail for no other reason.
+/// Out of memory: the one error of a call that can fail for no other reason.
 #[derive(Clone, Copy, Debug, PartialEq, Eq)]
 pub struct NoMemory;
 
