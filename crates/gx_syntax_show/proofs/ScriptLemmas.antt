@@ -10,7 +10,7 @@ use Rattle.gx_syntax_show.specs.ShownForms.{line, shown_text}
 
 -- a script's text, at the start of the next line
 abbrev pub written : List Stmt → WriterState
-written ss = record { text = shown_text ss; last = Start }
+written ss = record { text = shown_text ss; last = LineStart }
 
 text-more : (ss : List Stmt) (s : Stmt) → shown_text (ss ++ s ∷ []) ≡ shown_text ss ++ (spaced_text (line s) ++ 10 ∷ [])
 text-more [] s = refl
@@ -18,8 +18,8 @@ text-more (x ∷ ss) s = ap (λ t. spaced_text (line x) ++ 10 ∷ t) (text-more 
 
 line-more : (ss : List Stmt) (s : Stmt) → with_line_end (with_pieces (written ss) (line s)) ≡ written (ss ++ s ∷ [])
 line-more ss s =
-    ap (λ t. record { text = t ++ 10 ∷ []; last = Start }) (spaces_pieces (shown_text ss) (line s))
-    ∙ ap (λ t. record { text = t; last = Start }) (append_assoc (shown_text ss) (spaced_text (line s)) (10 ∷ []) ∙ sym (text-more ss s))
+    ap (λ t. record { text = t ++ 10 ∷ []; last = LineStart }) (spaces_pieces (shown_text ss) (line s))
+    ∙ ap (λ t. record { text = t; last = LineStart }) (append_assoc (shown_text ss) (spaced_text (line s)) (10 ∷ []) ∙ sym (text-more ss s))
 
 -- one line more
 pub put_line : (ss : List Stmt) (i : ℕ) (s : Stmt) (a b : WriterState) → i < length ss → s ≡ get_or ss i s

@@ -25,39 +25,39 @@ use Rattle.gx_syntax_show.specs.Shown.{shown, enclosed, magnitude}
 use Rattle.gx_syntax_show.specs.ShownForms.{kind_word, merge_word, column_pieces, set_pieces, merge_pieces, named_pieces, const_pieces}
 use Rattle.gx_syntax_show.proofs.ListedLemmas.{enclosed-terminal}
 use Rattle.gx_syntax_show.proofs.ShownLemmas.{shown-spells, shown-least, shown-proper}
-use Rattle.gx_syntax_show.proofs.ShownLanguages.{AreInner, operand_precedence-append, IsShown, Shows, some_same, same_shown, one_shown, sign_spelled, listed_shown, labelled_shown}
+use Rattle.gx_syntax_show.proofs.ShownLanguages.{AreInner, inner-append, IsShown, Shows, some_same, same_shown, one_shown, sign_spelled, listed_shown, labelled_shown}
 use Rattle.gx_syntax_show.proofs.ShownWords.{absent, pick, kind_is, merge_is, meant_shown}
 
 -- an expression
-between-operand_precedence : (o : BinaryOp) → is_semicolon (infix_token o) ≡ false
-between-operand_precedence binary.Or = refl
-between-operand_precedence _ = refl
+between-inner : (o : BinaryOp) → is_semicolon (infix_token o) ≡ false
+between-inner binary.Or = refl
+between-inner _ = refl
 
 mutual
-  expression-operand_precedence : {l : ℕ} {ts : List Terminal} {x : Expr} → Spells l ts x → AreInner ts
-  expression-operand_precedence (above d) = expression-operand_precedence d
-  expression-operand_precedence (between {ts} {us} o d e) = operand_precedence-append ts (infix_token o ∷ us) (expression-operand_precedence d) (between-operand_precedence o, expression-operand_precedence e)
-  expression-operand_precedence (before unary.Not d) = (refl, expression-operand_precedence d)
-  expression-operand_precedence (before unary.Neg d) = (refl, expression-operand_precedence d)
-  expression-operand_precedence (constant n p) = (refl, tt)
-  expression-operand_precedence (quotation s) = (refl, tt)
-  expression-operand_precedence yes = (refl, tt)
-  expression-operand_precedence no = (refl, tt)
-  expression-operand_precedence matching = (refl, tt)
-  expression-operand_precedence (column side name) = (refl, (refl, (refl, tt)))
-  expression-operand_precedence (call {ts} name p d) = (refl, (refl, operand_precedence-append ts (symbol symbols.CloseParen ∷ []) (arguments-operand_precedence d) (refl, tt)))
-  expression-operand_precedence (group {ts} d) = (refl, operand_precedence-append ts (symbol symbols.CloseParen ∷ []) (expression-operand_precedence d) (refl, tt))
+  expression-inner : {l : ℕ} {ts : List Terminal} {x : Expr} → Spells l ts x → AreInner ts
+  expression-inner (above d) = expression-inner d
+  expression-inner (between {ts} {us} o d e) = inner-append ts (infix_token o ∷ us) (expression-inner d) (between-inner o, expression-inner e)
+  expression-inner (before unary.Not d) = (refl, expression-inner d)
+  expression-inner (before unary.Neg d) = (refl, expression-inner d)
+  expression-inner (constant n p) = (refl, tt)
+  expression-inner (quotation s) = (refl, tt)
+  expression-inner yes = (refl, tt)
+  expression-inner no = (refl, tt)
+  expression-inner matching = (refl, tt)
+  expression-inner (column side name) = (refl, (refl, (refl, tt)))
+  expression-inner (call {ts} name p d) = (refl, (refl, inner-append ts (symbol symbols.CloseParen ∷ []) (arguments-inner d) (refl, tt)))
+  expression-inner (group {ts} d) = (refl, inner-append ts (symbol symbols.CloseParen ∷ []) (expression-inner d) (refl, tt))
 
-  arguments-operand_precedence : {ts : List Terminal} {xs : List Expr} → SpellsArguments ts xs → AreInner ts
-  arguments-operand_precedence none = tt
-  arguments-operand_precedence (some {ts} {us} f d) = operand_precedence-append ts us (front-operand_precedence f) (expression-operand_precedence d)
+  arguments-inner : {ts : List Terminal} {xs : List Expr} → SpellsArguments ts xs → AreInner ts
+  arguments-inner none = tt
+  arguments-inner (some {ts} {us} f d) = inner-append ts us (front-inner f) (expression-inner d)
 
-  front-operand_precedence : {ts : List Terminal} {xs : List Expr} → SpellsFront ts xs → AreInner ts
-  front-operand_precedence start = tt
-  front-operand_precedence (onward {ts} {us} f d) = operand_precedence-append (ts ++ us) (symbol symbols.Comma ∷ []) (operand_precedence-append ts us (front-operand_precedence f) (expression-operand_precedence d)) (refl, tt)
+  front-inner : {ts : List Terminal} {xs : List Expr} → SpellsFront ts xs → AreInner ts
+  front-inner start = tt
+  front-inner (onward {ts} {us} f d) = inner-append (ts ++ us) (symbol symbols.Comma ∷ []) (inner-append ts us (front-inner f) (expression-inner d)) (refl, tt)
 
 pub expression_shown : Shows (Spells 1) (shown 1)
-expression_shown ts x d = record { spells = shown-spells d 1 (omega arith); few = shown-least d 1 (omega arith); proper = λ p. shown-proper d p 1; operand_precedence = expression-operand_precedence d }
+expression_shown ts x d = record { spells = shown-spells d 1 (omega arith); few = shown-least d 1 (omega arith); proper = λ p. shown-proper d p 1; inner = expression-inner d }
 
 -- lists in parentheses
 module _ {A : Type 0} (L : List Terminal → A → Type 0) (show : A → List Piece) where
@@ -124,16 +124,16 @@ begins (number n) h e = number_begins (fits n) n h e
 begins (quoted s) h e = subst (Begins (quoted s)) (some_same e) refl
 begins (symbol s) h e = symbol_begins s h e
 
-constant-operand_precedence : (c : Const) → AreInner (map terminal (const_pieces c))
-constant-operand_precedence (consts.Number (pos n)) = (refl, tt)
-constant-operand_precedence (consts.Number (negsuc n)) = (refl, (refl, tt))
-constant-operand_precedence (consts.Quoted s) = (refl, tt)
-constant-operand_precedence (consts.Truth b) = (refl, tt)
-constant-operand_precedence consts.NoIds = (refl, (refl, (refl, tt)))
+constant-inner : (c : Const) → AreInner (map terminal (const_pieces c))
+constant-inner (consts.Number (pos n)) = (refl, tt)
+constant-inner (consts.Number (negsuc n)) = (refl, (refl, tt))
+constant-inner (consts.Quoted s) = (refl, tt)
+constant-inner (consts.Truth b) = (refl, tt)
+constant-inner consts.NoIds = (refl, (refl, (refl, tt)))
 
 -- a constant that is shown by the tokens that were read
 constant_same : (ts : List Terminal) (c : Const) → SpellsConst ts c → ts ≡ map terminal (const_pieces c) → IsShown SpellsConst ts (map terminal (const_pieces c)) c
-constant_same ts c d e = same_shown SpellsConst ts (map terminal (const_pieces c)) c d e (constant-operand_precedence c)
+constant_same ts c d e = same_shown SpellsConst ts (map terminal (const_pieces c)) c d e (constant-inner c)
 
 -- `-0` is shown as `0`
 negative_shown : (n : ℕ) (ts : List Terminal) → SpellsConst ts (negative (pos n)) → ts ≡ symbol symbols.Minus ∷ number n ∷ [] → IsShown SpellsConst ts (map terminal (const_pieces (negative (pos n)))) (negative (pos n))
@@ -142,7 +142,7 @@ negative_shown zero ts d e = record {
   spells = record { first = number 0 ∷ []; second = []; value = const_heads.Whole (consts.Number (pos 0)); whole = refl; head = record { token = number 0; whole = refl; passes = refl }; tail = record { empty = refl; given = refl } };
   few = rw e (omega arith);
   proper = λ p. let both = rw e at p in (both.1.0, tt);
-  operand_precedence = rw e (refl, (refl, tt));
+  inner = rw e (refl, (refl, tt));
 }
 negative_shown (suc n) ts d e = constant_same ts (negative (pos (suc n))) d e
 

@@ -184,13 +184,13 @@ pub proper-append : (ts us : List Terminal) → AreValidTerminals ts → AreVali
 proper-append [] us a b = b
 proper-append (t ∷ ts) us a b = (a.0, proper-append ts us a.1 b)
 
-pub proper-left_precedence : (ts us : List Terminal) → AreValidTerminals (ts ++ us) → AreValidTerminals ts
-proper-left_precedence [] us a = tt
-proper-left_precedence (t ∷ ts) us a = (a.0, proper-left_precedence ts us a.1)
+pub proper-left : (ts us : List Terminal) → AreValidTerminals (ts ++ us) → AreValidTerminals ts
+proper-left [] us a = tt
+proper-left (t ∷ ts) us a = (a.0, proper-left ts us a.1)
 
-pub proper-right_precedence : (ts us : List Terminal) → AreValidTerminals (ts ++ us) → AreValidTerminals us
-proper-right_precedence [] us a = a
-proper-right_precedence (t ∷ ts) us a = proper-right_precedence ts us a.1
+pub proper-right : (ts us : List Terminal) → AreValidTerminals (ts ++ us) → AreValidTerminals us
+proper-right [] us a = a
+proper-right (t ∷ ts) us a = proper-right ts us a.1
 
 grouped-proper : (k m : ℕ) (ts : List Terminal) → AreValidTerminals ts → AreValidTerminals (grouped k m ts)
 grouped-proper k m ts a = go (nat_le k m)
@@ -203,9 +203,9 @@ mutual
   pub shown-proper : {l : ℕ} {ts : List Terminal} {x : Expr} → Spells l ts x → AreValidTerminals ts → (k : ℕ) → AreValidTerminals (shown k x)
   shown-proper (above d) p k = shown-proper d p k
   shown-proper (between {ts} {us} {a} {b} o d e) p k =
-      let behind : AreValidTerminals (infix_token o ∷ us) = proper-right_precedence ts (infix_token o ∷ us) p in
+      let behind : AreValidTerminals (infix_token o ∷ us) = proper-right ts (infix_token o ∷ us) p in
       rw (shown-between k o a b) (grouped-proper k (binary_precedence o) _ (proper-append (shown (left_precedence o) a) (infix_token o ∷ shown (right_precedence o) b)
-      (shown-proper d (proper-left_precedence ts (infix_token o ∷ us) p) (left_precedence o)) (behind.0, shown-proper e behind.1 (right_precedence o))))
+      (shown-proper d (proper-left ts (infix_token o ∷ us) p) (left_precedence o)) (behind.0, shown-proper e behind.1 (right_precedence o))))
   shown-proper (before {a} o d) p k = rw (shown-before k o a) (grouped-proper k (unary_precedence o) _ (p.0, shown-proper d p.1 (operand_precedence o)))
   shown-proper (constant n q) p k = rw (shown-number k n) p
   shown-proper (quotation s) p k = rw (shown-quoted k s) p
@@ -214,20 +214,20 @@ mutual
   shown-proper matching p k = rw (shown-matched k) p
   shown-proper (column side name) p k = rw (shown-column k side name) p
   shown-proper (call {ts} {xs} name q d) p k =
-      rw (shown-call k name xs) (p.0, (tt, proper-append (paren_list (shown 1) xs) (symbol symbols.CloseParen ∷ []) (paren_list-proper d (proper-left_precedence ts (symbol symbols.CloseParen ∷ []) p.1.1)) (tt, tt)))
-  shown-proper (group {ts} d) p k = shown-proper d (proper-left_precedence ts (symbol symbols.CloseParen ∷ []) p.1) k
+      rw (shown-call k name xs) (p.0, (tt, proper-append (paren_list (shown 1) xs) (symbol symbols.CloseParen ∷ []) (paren_list-proper d (proper-left ts (symbol symbols.CloseParen ∷ []) p.1.1)) (tt, tt)))
+  shown-proper (group {ts} d) p k = shown-proper d (proper-left ts (symbol symbols.CloseParen ∷ []) p.1) k
 
   paren_list-proper : {ts : List Terminal} {xs : List Expr} → SpellsArguments ts xs → AreValidTerminals ts → AreValidTerminals (paren_list (shown 1) xs)
   paren_list-proper none p = tt
   paren_list-proper (some {ts} {us} {xs} {x} f d) p =
-      rw (paren_list-last (shown 1) xs x) (proper-append (fronted (shown 1) xs) (shown 1 x) (fronted-proper f (proper-left_precedence ts us p)) (shown-proper d (proper-right_precedence ts us p) 1))
+      rw (paren_list-last (shown 1) xs x) (proper-append (fronted (shown 1) xs) (shown 1 x) (fronted-proper f (proper-left ts us p)) (shown-proper d (proper-right ts us p) 1))
 
   fronted-proper : {ts : List Terminal} {xs : List Expr} → SpellsFront ts xs → AreValidTerminals ts → AreValidTerminals (fronted (shown 1) xs)
   fronted-proper start p = tt
   fronted-proper (onward {ts} {us} {xs} {x} f d) p =
-      let both : AreValidTerminals (ts ++ us) = proper-left_precedence (ts ++ us) (symbol symbols.Comma ∷ []) p in
+      let both : AreValidTerminals (ts ++ us) = proper-left (ts ++ us) (symbol symbols.Comma ∷ []) p in
       rw (fronted-last (shown 1) xs x) (proper-append (fronted (shown 1) xs ++ shown 1 x) (symbol symbols.Comma ∷ [])
-      (proper-append (fronted (shown 1) xs) (shown 1 x) (fronted-proper f (proper-left_precedence ts us both)) (shown-proper d (proper-right_precedence ts us both) 1)) (tt, tt))
+      (proper-append (fronted (shown 1) xs) (shown 1 x) (fronted-proper f (proper-left ts us both)) (shown-proper d (proper-right ts us both) 1)) (tt, tt))
 
 pub proper-pieces : (ps : List Piece) → AreValidTerminals (map terminal ps) → AreValid ps
 proper-pieces [] a = tt

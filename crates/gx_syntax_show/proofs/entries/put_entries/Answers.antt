@@ -3,8 +3,8 @@ use Rattle.std.proofs.lemmas.List.{take_all}
 use Rattle.gx_syntax_tokens.specs.Writing.{with_pieces}
 use Rattle.gx_syntax_show.proofs.EntryLemmas.{comma_before, comma-none, comma-some, put_more}
 use Rattle.gx_syntax_show.proofs.PiecesLemmas.{pieces_append}
-use Rattle.gx_syntax_show.proofs.lists.put_entries.Goals as goal
-use Rattle.gx_syntax_show.proofs.lists.put_entries.Goals.{then-i-gt0+in_ok-symbol-2, else-i-gt0}
+use Rattle.gx_syntax_show.proofs.entries.put_entries.Goals as goal
+use Rattle.gx_syntax_show.proofs.entries.put_entries.Goals.{then-i-gt0+in_ok-symbol-2, else-i-gt0}
 
 pub entries-preserved : goal.entries-preserved
 entries-preserved g c =

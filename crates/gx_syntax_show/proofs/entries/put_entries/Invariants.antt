@@ -4,7 +4,7 @@ use Rattle.gx_syntax_tokens.specs.Terminals.{symbol}
 use Rattle.gx_syntax_tokens.specs.Writing.{with_piece, with_pieces}
 use Rattle.gx_syntax_tokens.specs.declared.symbol.Symbol.TheVariants as symbols
 use Rattle.gx_syntax_show.specs.Shown.{paren_list}
-use Rattle.gx_syntax_show.proofs.lists.put_entries.Given as goal
+use Rattle.gx_syntax_show.proofs.entries.put_entries.Given as goal
 
 -- the entries so far are written
 abbrev pub invariant-entries : goal.invariant-entries
