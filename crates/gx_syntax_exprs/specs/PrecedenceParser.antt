@@ -204,3 +204,7 @@ outcome_then next ts rejects = Err ts
 unfoldable pub parse_from : State → List Frame → List Terminal → Result (Expr × List Terminal) (List Terminal)
 parse_from s st [] = outcome_at_end (transition s st None)
 parse_from s st (t ∷ ts) = outcome_then (λ s' st'. parse_from s' st' ts) (t ∷ ts) (transition s st (Some t))
+
+-- the first expression of tokens
+abbrev pub parse_first : List Terminal → Result (Expr × List Terminal) (List Terminal)
+parse_first ts = parse_from states.ExpectOperand [] ts
