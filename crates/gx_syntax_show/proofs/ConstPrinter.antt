@@ -1,42 +1,35 @@
 -- Printers of texts, numbers and constants.
-use Rattle.std.proofs.Common.{◌≡◌, ℕ, zero, suc, ℤ, pos, negsuc, Bool, true, false, if◌then◌else◌, Option, Some, None, List, [], ◌∷◌, ◌++◌, map, codes, bytes_eq, refl, sym, ◌∙◌, ap, subst, arith}
-use Rattle.std.proofs.lemmas.List.{append-nil}
-use Rattle.std.proofs.lemmas.Slice.Eq.{bytes_eq-Decides}
+use Rattle.std.proofs.Common.{◌≡◌, ℕ, zero, suc, ℤ, pos, Bool, true, false, if◌then◌else◌, Option, Some, None, inl, inr, List, [], ◌∷◌, map, codes, refl, sym, ◌∙◌, ap, subst, arith}
 use Rattle.gx_syntax_tokens.specs.Terminals.{Terminal, word, number, quoted, symbol}
-use Rattle.gx_syntax_tokens.specs.SpacedText.{token, terminal}
-use Rattle.gx_syntax_tokens.specs.declared.symbol.Symbol.{Symbol}
+use Rattle.gx_syntax_tokens.specs.SpacedText.{token, sign, terminal}
 use Rattle.gx_syntax_tokens.specs.declared.symbol.Symbol.TheVariants as symbols
 use Rattle.gx_syntax_exprs.specs.Combinators.{Satisfies}
-use Rattle.gx_syntax_exprs.specs.Grammar.{fits}
-use Rattle.gx_syntax_stmts.specs.Parts.{quoted_value, number_value, truth_word, const_head, ConstTail, negative, SpellsConst}
-use Rattle.gx_syntax_stmts.specs.declared.lists.ConstHead.{ConstHead}
-use Rattle.gx_syntax_stmts.specs.declared.lists.ConstHead.TheVariants as heads
-use Rattle.gx_syntax_stmts.specs.declared.signs.Sign.TheVariants as signs
+use Rattle.gx_syntax_exprs.specs.Grammar.{fits_i64}
+use Rattle.gx_syntax_exprs.specs.TokenParsers.{quoted_value, number_value}
+use Rattle.gx_syntax_stmts.specs.Keywords.{truth_of}
+use Rattle.gx_syntax_stmts.specs.Parts.{truth_const, literal_value, negative, SpellsNegative, SpellsNoIds, SpellsConst}
 use Rattle.gx_syntax_tree.specs.declared.constant.Const.{Const}
 use Rattle.gx_syntax_tree.specs.declared.constant.Const.TheVariants as consts
 use Rattle.gx_syntax_show.specs.ExprPieces.{magnitude}
 use Rattle.gx_syntax_show.specs.ItemPieces.{const_pieces}
-use Rattle.gx_syntax_show.proofs.ListPrinters.{some_same, symbol_is}
-use Rattle.gx_syntax_show.proofs.Printers.{Prints, IsPrinter, prints_same, token_printer}
-use Rattle.gx_syntax_show.proofs.Replacing.{HasNoSemicolon, CanReplace}
-
--- nothing is known of what is not there
-absent : {A B : Type 0} {x : A} → ◌≡◌ {A = Option A} None (Some x) → B
-absent {A = A} {x = x} e = absurd (let lie : ◌≡◌ {A = Option A} None (Some x) = e in cc)
+use Rattle.gx_syntax_show.proofs.ListPrinters.{some_same, absent, symbol_printer, sign_printer, function_printer}
+use Rattle.gx_syntax_show.proofs.Printers.{Prints, IsPrinter, prints_as, prints_same, token_printer, then_printed, last_printed, either_printer}
+use Rattle.gx_syntax_show.proofs.Replacing.{HasNoSemicolon}
+use Rattle.gx_syntax_show.proofs.WordPrinters.{truth_is}
 
 pub text_printer : IsPrinter (Satisfies quoted_value) (λ s. token (quoted s) ∷ [])
 text_printer = token_printer quoted_value (λ s. token (quoted s)) text_is (λ s. refl)
   where
     text_is : (t : Terminal) (s : List ℕ) → quoted_value t ≡ Some s → t ≡ quoted s
-    text_is (word w) s e = cc
-    text_is (number n) s e = cc
+    text_is (word w) s e = absent e
+    text_is (number n) s e = absent e
     text_is (quoted v) s e = ap quoted (some_same e)
-    text_is (symbol v) s e = cc
+    text_is (symbol v) s e = absent e
 
--- a number that is not too large
-fitting : (b : Bool) (n : ℕ) (z : ℤ) → (if b then Some (pos n) else None) ≡ Some z → pos n ≡ z
-fitting true n z e = some_same e
-fitting false n z e = cc
+-- what is there only if a test is passed
+some_if : {A : Type 0} (b : Bool) (a x : A) → (if b then Some a else None) ≡ Some x → a ≡ x
+some_if true a x e = some_same e
+some_if false a x e = absent e
 
 -- the token of a number, and its value
 record IsNumber (t : Terminal) (z : ℤ) : Type 0 where
@@ -45,83 +38,58 @@ record IsNumber (t : Terminal) (z : ℤ) : Type 0 where
 
 number_is : (t : Terminal) (z : ℤ) → number_value t ≡ Some z → IsNumber t z
 number_is (word w) z e = absent e
-number_is (number n) z e = subst (IsNumber (number n)) (fitting (fits n) n z e) (record { is_token = refl; is_natural = refl })
+number_is (number n) z e = subst (IsNumber (number n)) (some_if (fits_i64 n) (pos n) z e) (record { is_token = refl; is_natural = refl })
 number_is (quoted s) z e = absent e
 number_is (symbol s) z e = absent e
 
 pub number_printer : IsPrinter (Satisfies number_value) (λ z. token (number (magnitude z)) ∷ [])
 number_printer = token_printer number_value (λ z. token (number (magnitude z))) (λ t z e. (number_is t z e).is_token) (λ z. refl)
 
--- the first token of a constant
-abbrev Begins : Terminal → ConstHead → Type 0
-Begins t (heads.Whole c) = t ∷ [] ≡ map terminal (const_pieces c)
-Begins t heads.Minus = t ≡ symbol symbols.Minus
-Begins t heads.Ids = t ≡ word (codes "ids")
+-- the token of a constant that has one
+record IsLiteral (t : Terminal) (c : Const) : Type 0 where
+  is_token : t ∷ [] ≡ map terminal (const_pieces c)
+  no_semicolon : HasNoSemicolon (map terminal (const_pieces c))
 
-number_begins : (b : Bool) (n : ℕ) (h : ConstHead) → (if b then Some (heads.Whole (consts.Number (pos n))) else None) ≡ Some h → Begins (number n) h
-number_begins true n h e = subst (Begins (number n)) (some_same e) refl
-number_begins false n h e = absent e
+truth_literal : (w : List ℕ) (o : Option Bool) (c : Const) → truth_of w ≡ o → truth_const o ≡ Some c → IsLiteral (word w) c
+truth_literal w None c e f = absent f
+truth_literal w (Some b) c e f = subst (IsLiteral (word w)) (some_same f) (record { is_token = ap (λ v. word v ∷ []) (truth_is w b e); no_semicolon = (refl, tt) })
 
-symbol_begins : (s : Symbol) (h : ConstHead) → const_head (symbol s) ≡ Some h → Begins (symbol s) h
-symbol_begins symbols.Minus h e = subst (Begins (symbol symbols.Minus)) (some_same e) refl
-symbol_begins _ h e = absent e
+literal_is : (t : Terminal) (c : Const) → literal_value t ≡ Some c → IsLiteral t c
+literal_is (word w) c e = truth_literal w (truth_of w) c refl e
+literal_is (number n) c e = subst (IsLiteral (number n)) (some_if (fits_i64 n) (consts.Number (pos n)) c e) (record { is_token = refl; no_semicolon = (refl, tt) })
+literal_is (quoted s) c e = subst (IsLiteral (quoted s)) (some_same e) (record { is_token = refl; no_semicolon = (refl, tt) })
+literal_is (symbol s) c e = absent e
 
--- one row of the table of words
-word_row : (c : List ℕ) (k : ConstHead) → Begins (word c) k → (w : List ℕ) → {h : ConstHead} {rest : Option ConstHead} → (rest ≡ Some h → Begins (word w) h) → (if bytes_eq w c then Some k else rest) ≡ Some h → Begins (word w) h
-word_row c k here w {h} {rest} more = go (bytes_eq w c) refl
-  where
-    go : (b : Bool) → bytes_eq w c ≡ b → (if b then Some k else rest) ≡ Some h → Begins (word w) h
-    go true same e = subst (λ v. Begins (word v) h) (sym ((bytes_eq-Decides w c).0 same)) (subst (Begins (word c)) (some_same e) here)
-    go false same e = more e
+literal_printer : IsPrinter (Satisfies literal_value) const_pieces
+literal_printer ts c d = let is = literal_is d.token c d.passes in prints_same (Satisfies literal_value) ts (const_pieces c) c d (d.whole ∙ is.is_token) is.no_semicolon
 
-word_begins : (w : List ℕ) (h : ConstHead) → truth_word w ≡ Some h → Begins (word w) h
-word_begins w h = word_row (codes "true") (heads.Whole (consts.Truth true)) refl w (word_row (codes "false") (heads.Whole (consts.Truth false)) refl w (word_row (codes "ids") heads.Ids refl w absent))
+no_ids_printer : IsPrinter SpellsNoIds const_pieces
+no_ids_printer ts c d =
+    let open_paren = d.tail in
+    let close = open_paren.tail in
+    prints_as (ap const_pieces close.tail.given)
+    (then_printed d (function_printer (codes "ids") d.first d.value d.head)
+    (then_printed open_paren (symbol_printer symbols.OpenParen refl open_paren.first open_paren.value open_paren.head)
+    (last_printed close (symbol_printer symbols.CloseParen refl close.first close.value close.head))))
 
-begins : (t : Terminal) (h : ConstHead) → const_head t ≡ Some h → Begins t h
-begins (word w) h e = word_begins w h e
-begins (number n) h e = number_begins (fits n) n h e
-begins (quoted s) h e = subst (Begins (quoted s)) (some_same e) refl
-begins (symbol s) h e = symbol_begins s h e
-
-const-no_semicolon : (c : Const) → HasNoSemicolon (map terminal (const_pieces c))
-const-no_semicolon (consts.Number (pos n)) = (refl, tt)
-const-no_semicolon (consts.Number (negsuc n)) = (refl, (refl, tt))
-const-no_semicolon (consts.Quoted s) = (refl, tt)
-const-no_semicolon (consts.Truth true) = (refl, tt)
-const-no_semicolon (consts.Truth false) = (refl, tt)
-const-no_semicolon consts.NoIds = (refl, (refl, (refl, tt)))
-
--- a constant that is printed by the tokens that were read
-const_same : (ts : List Terminal) (c : Const) → SpellsConst ts c → ts ≡ map terminal (const_pieces c) → Prints SpellsConst ts (const_pieces c) c
-const_same ts c d e = prints_same SpellsConst ts (const_pieces c) c d e (const-no_semicolon c)
-
--- `-0` is printed as `0`
-negative_printed : (n : ℕ) (ts : List Terminal) → SpellsConst ts (negative (pos n)) → ts ≡ symbol symbols.Minus ∷ number n ∷ [] → Prints SpellsConst ts (const_pieces (negative (pos n))) (negative (pos n))
+-- a constant that is a number after a `-`: `-0` is printed as `0`
+negative_printed : (n : ℕ) (ts : List Terminal) (c : Const) → negative (pos n) ≡ c → Prints SpellsNegative ts (sign ∷ token (number n) ∷ []) c → Prints SpellsConst ts (const_pieces c) c
 unfolding SpellsConst
-negative_printed zero ts d e = record {
-  spells = record { first = number 0 ∷ []; second = []; value = heads.Whole (consts.Number (pos 0)); whole = refl; head = record { token = number 0; whole = refl; passes = refl }; tail = record { empty = refl; given = refl } };
-  replaces = subst (λ l. CanReplace l (token (number 0) ∷ [])) (sym e) (record { no_more = omega arith; valid = λ v. (v.1.0, tt); read = (refl, (refl, tt)); written = (refl, tt) });
-}
-negative_printed (suc n) ts d e = const_same ts (negative (pos (suc n))) d e
+negative_printed zero ts c e p = subst (λ c. Prints SpellsConst ts (const_pieces c) c) e (record {
+  spells = inr (inr (record { token = number 0; whole = refl; passes = refl }));
+  replaces = record { no_more = omega (arith, p.replaces.no_more); valid = λ v. (p.replaces.valid v).1; read = p.replaces.read; written = (refl, tt) };
+})
+negative_printed (suc n) ts c e p = prints_as (ap const_pieces (sym e)) (record { spells = inl p.spells; replaces = p.replaces })
 
--- a constant, by its first token
-tail_printed : (h : ConstHead) (ts : List Terminal) (c : Const) (t : Terminal) (v : List Terminal) → SpellsConst ts c → ts ≡ t ∷ v → Begins t h → ConstTail h v c → Prints SpellsConst ts (const_pieces c) c
-tail_printed (heads.Whole k) ts c t v d e b f = const_same ts c d (e ∙ ap (λ l. t ∷ l) f.empty ∙ b ∙ ap (λ k. map terminal (const_pieces k)) (sym f.given))
-tail_printed heads.Minus ts c t v d e b f =
-    let n = magnitude f.value in
-    let is = number_is f.head.token f.value f.head.passes in
-    let value : c ≡ negative (pos n) = f.tail.given ∙ ap negative is.is_natural in
-    let digits : f.first ≡ number n ∷ [] = f.head.whole ∙ ap (λ t. t ∷ []) is.is_token in
-    let rest : v ≡ number n ∷ [] = f.whole ∙ ap (λ l. f.first ++ l) f.tail.empty ∙ append-nil f.first ∙ digits in
-    let all : ts ≡ symbol symbols.Minus ∷ number n ∷ [] = e ∙ ap (λ l. t ∷ l) rest ∙ ap (λ t. t ∷ number n ∷ []) b in
-    rw value (negative_printed n ts (rw value at d) all)
-tail_printed heads.Ids ts c t v d e b f =
-    let opens : f.first ≡ symbol symbols.OpenParen ∷ [] = f.head.whole ∙ ap (λ t. t ∷ []) (symbol_is signs.OpenParen f.head.token f.value f.head.passes) in
-    let closes : f.tail.first ≡ symbol symbols.CloseParen ∷ [] = f.tail.head.whole ∙ ap (λ t. t ∷ []) (symbol_is signs.CloseParen f.tail.head.token f.tail.value f.tail.head.passes) in
-    let second : f.second ≡ symbol symbols.CloseParen ∷ [] = f.tail.whole ∙ rw (closes, f.tail.tail.empty) refl in
-    let rest : v ≡ symbol symbols.OpenParen ∷ symbol symbols.CloseParen ∷ [] = f.whole ∙ rw (opens, second) refl in
-    const_same ts c d (e ∙ rw (b, rest, f.tail.tail.given) refl)
+negative_printer : (ts : List Terminal) (c : Const) → SpellsNegative ts c → Prints SpellsConst ts (const_pieces c) c
+negative_printer ts c d =
+    let digits = d.tail in
+    let z = digits.value in
+    let is = number_is digits.head.token z digits.head.passes in
+    negative_printed (magnitude z) ts c (sym (digits.tail.given ∙ ap negative is.is_natural))
+    (then_printed d (sign_printer d.first d.value d.head) (last_printed digits (number_printer digits.first z digits.head)))
 
 pub const_printer : IsPrinter SpellsConst const_pieces
 unfolding SpellsConst
-const_printer ts c d = tail_printed d.value ts c d.head.token d.second d (d.whole ∙ ap (λ l. l ++ d.second) d.head.whole) (begins d.head.token d.value d.head.passes) d.tail
+const_printer ts c (inl d) = negative_printer ts c d
+const_printer ts c (inr d) = let p = either_printer SpellsNoIds (Satisfies literal_value) const_pieces no_ids_printer literal_printer ts c d in record { spells = inr p.spells; replaces = p.replaces }

@@ -1,13 +1,12 @@
 -- Printers of languages: for each value that some tokens spell, pieces that spell it too and may replace those tokens.
 -- What is put together from languages with printers has one.
-use Rattle.std.proofs.Common.{◌≡◌, false, Option, Some, None, inl, inr, List, [], ◌∷◌, ◌++◌, map, refl, sym, ◌∙◌, ap, subst}
+use Rattle.std.proofs.Common.{◌≡◌, false, Option, Some, None, inl, inr, List, [], ◌∷◌, ◌++◌, map, sym, ◌∙◌, ap, subst}
 use Rattle.std.specs.List.{flat_map}
 use Rattle.std.proofs.lemmas.List.{append-nil, map-append}
-use Rattle.gx_syntax_tokens.specs.Terminals.{Terminal}
+use Rattle.gx_syntax_tokens.specs.Terminals.{Terminal, is_symbol}
 use Rattle.gx_syntax_tokens.specs.SpacedText.{Piece, terminal}
+use Rattle.gx_syntax_tokens.specs.declared.symbol.Symbol.TheVariants as symbols
 use Rattle.gx_syntax_exprs.specs.Combinators.{Satisfies, Empty, Then, Either, Many, none, more}
-use Rattle.gx_syntax_stmts.specs.Parts.{Optional}
-use Rattle.gx_syntax_stmts.specs.TokenTests.{is_semicolon}
 use Rattle.gx_syntax_show.specs.ListPieces.{optional_pieces}
 use Rattle.gx_syntax_show.proofs.Replacing.{HasNoSemicolon, CanReplace, replaces-same, replaces-append}
 
@@ -29,7 +28,7 @@ pub prints_same : {A : Type 0} (L : List Terminal → A → Type 0) (ts : List T
 prints_same L ts ps x d e n = record { spells = subst (λ l. L l x) e d; replaces = subst (λ l. CanReplace l ps) (sym e) (replaces-same ps n) }
 
 -- one token
-pub token_printer : {A : Type 0} (test : Terminal → Option A) (piece : A → Piece) → ((t : Terminal) (x : A) → test t ≡ Some x → t ≡ terminal (piece x)) → ((x : A) → is_semicolon (terminal (piece x)) ≡ false)
+pub token_printer : {A : Type 0} (test : Terminal → Option A) (piece : A → Piece) → ((t : Terminal) (x : A) → test t ≡ Some x → t ≡ terminal (piece x)) → ((x : A) → is_symbol symbols.Semicolon (terminal (piece x)) ≡ false)
     → IsPrinter (Satisfies test) (λ x. piece x ∷ [])
 token_printer test piece is n ts x d = prints_same (Satisfies test) ts (piece x ∷ []) x d (d.whole ∙ ap (λ t. t ∷ []) (is d.token x d.passes)) (n x, tt)
 
@@ -56,8 +55,10 @@ either_printer L M pieces P Q ts x (inl d) = let p = P ts x d in record { spells
 either_printer L M pieces P Q ts x (inr d) = let q = Q ts x d in record { spells = inr q.spells; replaces = q.replaces }
 
 -- what may be left out
+abbrev pub Optional : {A : Type 0} → (List Terminal → A → Type 0) → List Terminal → Option A → Type 0
+Optional L = Either (Then L (λ x. Empty (Some x))) (Empty None)
+
 pub optional_printer : {A : Type 0} (L : List Terminal → A → Type 0) (pieces : A → List Piece) → IsPrinter L pieces → IsPrinter (Optional L) (optional_pieces pieces)
-unfolding Optional
 optional_printer {A = A} L pieces P = either_printer (Then L (λ x. Empty (Some x))) (Empty None) (optional_pieces pieces) given left_out
   where
     given : IsPrinter (Then L (λ x. Empty (Some x))) (optional_pieces pieces)

@@ -1,15 +1,14 @@
 -- Pieces that may take the place of tokens that were read.
-use Rattle.std.proofs.Common.{◌≡◌, ◌≤◌, true, false, List, [], ◌∷◌, ◌++◌, length, map, refl, sym, subst, length-append, arith}
+use Rattle.std.proofs.Common.{◌≡◌, ◌≤◌, false, List, [], ◌∷◌, ◌++◌, length, map, refl, sym, subst, length-append, arith}
 use Rattle.std.proofs.lemmas.List.{map-append}
-use Rattle.gx_syntax_tokens.specs.Terminals.{Terminal, symbol}
+use Rattle.gx_syntax_tokens.specs.Terminals.{Terminal, symbol, is_symbol}
 use Rattle.gx_syntax_tokens.specs.SpacedText.{Piece, token, terminal, AreValid, AreValidTerminals}
 use Rattle.gx_syntax_tokens.specs.declared.symbol.Symbol.TheVariants as symbols
-use Rattle.gx_syntax_stmts.specs.TokenTests.{is_semicolon}
 
 -- no token is a `;`
 abbrev pub HasNoSemicolon : List Terminal → Type 0
 HasNoSemicolon [] = Unit {0}
-HasNoSemicolon (t ∷ ts) = (is_semicolon t ≡ false) × HasNoSemicolon ts
+HasNoSemicolon (t ∷ ts) = (is_symbol symbols.Semicolon t ≡ false) × HasNoSemicolon ts
 
 no_semicolon-append : (ts us : List Terminal) → HasNoSemicolon ts → HasNoSemicolon us → HasNoSemicolon (ts ++ us)
 no_semicolon-append [] us a b = b
@@ -38,7 +37,7 @@ pub replaces-none : CanReplace [] []
 replaces-none = record { no_more = omega arith; valid = λ v. tt; read = tt; written = tt }
 
 -- a token that stays as it is, before others
-pub replaces-token : (p : Piece) {ts : List Terminal} {ps : List Piece} → is_semicolon (terminal p) ≡ false → CanReplace ts ps → CanReplace (terminal p ∷ ts) (p ∷ ps)
+pub replaces-token : (p : Piece) {ts : List Terminal} {ps : List Piece} → is_symbol symbols.Semicolon (terminal p) ≡ false → CanReplace ts ps → CanReplace (terminal p ∷ ts) (p ∷ ps)
 replaces-token p e r = record { no_more = omega (arith, r.no_more); valid = λ v. (v.0, r.valid v.1); read = (e, r.read); written = (e, r.written) }
 
 pub replaces-same : (ps : List Piece) → HasNoSemicolon (map terminal ps) → CanReplace (map terminal ps) ps

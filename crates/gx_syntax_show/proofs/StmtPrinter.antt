@@ -1,31 +1,30 @@
 -- The printer of statements.
 use Rattle.std.proofs.Common.{◌≡◌, false, List, [], ◌∷◌, ◌++◌, map, refl, sym, ◌∙◌, ap, subst, append_assoc}
 use Rattle.std.proofs.lemmas.List.{map-append}
-use Rattle.gx_syntax_tokens.specs.Terminals.{Terminal, symbol}
+use Rattle.gx_syntax_tokens.specs.Terminals.{Terminal, symbol, is_symbol}
 use Rattle.gx_syntax_tokens.specs.SpacedText.{Piece, token, terminal}
 use Rattle.gx_syntax_tokens.specs.declared.symbol.Symbol.TheVariants as symbols
-use Rattle.gx_syntax_stmts.specs.Forms.{SpellsForm, sign_of, SpellsStatement}
-use Rattle.gx_syntax_stmts.specs.TokenTests.{is_semicolon}
-use Rattle.gx_syntax_stmts.specs.declared.signs.Sign.TheVariants as signs
+use Rattle.gx_syntax_stmts.specs.Forms.{SpellsForm, symbol_of, SpellsStatement}
+use Rattle.gx_syntax_stmts.specs.Keywords.{keyword_of}
 use Rattle.gx_syntax_tree.specs.Forms.{Punctuation, equals, comma, Form, fin, mark, say, part, form_of, ViewsWhatItIsMadeOf}
 use Rattle.gx_syntax_tree.specs.declared.stmt.Stmt.{Stmt}
 use Rattle.gx_syntax_show.specs.ListPieces.{word_pieces}
 use Rattle.gx_syntax_show.specs.ScriptLines.{line_of_stmt}
-use Rattle.gx_syntax_show.specs.StmtPieces.{symbol_of, form_pieces, view_pieces, stmt_pieces}
+use Rattle.gx_syntax_show.specs.StmtPieces.{form_pieces, view_pieces, stmt_pieces}
 use Rattle.gx_syntax_show.specs.Words.{stmt_word}
 use Rattle.gx_syntax_show.proofs.ListPrinters.{symbol_is, symbol_printer, word_printer}
 use Rattle.gx_syntax_show.proofs.PartPrinters.{part_printer}
 use Rattle.gx_syntax_show.proofs.Printers.{IsPrinter, prints_as, empty_printed, then_printed, last_printed}
 use Rattle.gx_syntax_show.proofs.Replacing.{CanReplace, replaces-append}
-use Rattle.gx_syntax_show.proofs.WordPrinters.{keyword_printer}
+use Rattle.gx_syntax_show.proofs.WordPrinters.{keyword_is, choice_printer}
 
-punctuation-no_semicolon : (p : Punctuation) → is_semicolon (symbol (symbol_of (sign_of p))) ≡ false
+punctuation-no_semicolon : (p : Punctuation) → is_symbol symbols.Semicolon (symbol (symbol_of p)) ≡ false
 punctuation-no_semicolon equals = refl
 punctuation-no_semicolon comma = refl
 
 form_printer : (f : Form) → IsPrinter (SpellsForm f) (form_pieces f)
 form_printer fin ts v d = empty_printed d
-form_printer (mark p f) ts v d = then_printed d (symbol_printer (sign_of p) (punctuation-no_semicolon p) d.first d.value d.head) (form_printer f d.second v d.tail)
+form_printer (mark p f) ts v d = then_printed d (symbol_printer (symbol_of p) (punctuation-no_semicolon p) d.first d.value d.head) (form_printer f d.second v d.tail)
 form_printer (say w f) ts v d = then_printed d (word_printer w d.first d.value d.head) (form_printer f d.second v d.tail)
 form_printer (part p f) ts v d =
     let rest = d.tail in
@@ -47,10 +46,10 @@ line_printed seen ts s d =
     let body = d.tail in
     let finish = body.tail in
     let values : List Piece = form_pieces (form_of k) body.head.value in
-    let keyword = keyword_printer d.first k d.head in
+    let keyword = choice_printer keyword_of stmt_word keyword_is d.first k d.head in
     let form = last_printed body.head (form_printer (form_of k) body.head.first body.head.value body.head.head) in
     let pieces : stmt_pieces s ≡ word_pieces (stmt_word k) ++ values = ap stmt_pieces (finish.tail.given ∙ body.head.tail.given) ∙ ap view_pieces (seen k body.head.value) in
-    let semicolon : finish.first ≡ symbol symbols.Semicolon ∷ [] = finish.head.whole ∙ ap (λ t. t ∷ []) (symbol_is signs.Semicolon finish.head.token finish.value finish.head.passes) in
+    let semicolon : finish.first ≡ symbol symbols.Semicolon ∷ [] = finish.head.whole ∙ ap (λ t. t ∷ []) (symbol_is symbols.Semicolon finish.head.token finish.value finish.head.passes) in
     let last : body.second ≡ symbol symbols.Semicolon ∷ [] = finish.whole ∙ rw (semicolon, finish.tail.empty) refl in
     record {
       front = d.first ++ body.first;

@@ -1,14 +1,13 @@
 -- Tokens are within the limit if those of each statement are.
 use Rattle.std.proofs.Common.{◌≡◌, ℕ, suc, ◌≤◌, ◌<◌, ◌+◌, true, false, List, [], ◌∷◌, ◌++◌, length, refl, sym, ap, subst, arith}
-use Rattle.gx_syntax_tokens.specs.Terminals.{Terminal, symbol}
+use Rattle.gx_syntax_tokens.specs.Terminals.{Terminal, symbol, is_symbol}
 use Rattle.gx_syntax_tokens.specs.declared.symbol.Symbol.TheVariants as symbols
-use Rattle.gx_syntax_stmts.specs.TokenTests.{is_semicolon}
 use Rattle.gx_syntax_stmts.specs.Limits.{most_tokens, counted, open_len, IsShort}
 use Rattle.gx_syntax_show.proofs.Replacing.{HasNoSemicolon}
 
 -- no token exceeds the limit, if n tokens of its statement precede these
 abbrev IsShortAfter : ℕ → List Terminal → Type 0
-IsShortAfter n ts = (front : List Terminal) (t : Terminal) (rest : List Terminal) → ts ≡ front ++ t ∷ rest → is_semicolon t ≡ false → most_tokens ≤ open_len n front → ⊥
+IsShortAfter n ts = (front : List Terminal) (t : Terminal) (rest : List Terminal) → ts ≡ front ++ t ∷ rest → is_symbol symbols.Semicolon t ≡ false → most_tokens ≤ open_len n front → ⊥
 
 short_after : (ts : List Terminal) → IsShort ts → IsShortAfter 0 ts
 short_after ts short front t rest e counts many = short front t rest e (record { counts = counts; many = many })
@@ -17,13 +16,13 @@ after_short : (ts : List Terminal) → IsShortAfter 0 ts → IsShort ts
 after_short ts short front t rest e c = short front t rest e c.counts c.many
 
 -- without the first token
-short_next : (n : ℕ) (t : Terminal) (ts : List Terminal) → IsShortAfter n (t ∷ ts) → IsShortAfter (counted (is_semicolon t) n) ts
+short_next : (n : ℕ) (t : Terminal) (ts : List Terminal) → IsShortAfter n (t ∷ ts) → IsShortAfter (counted (is_symbol symbols.Semicolon t) n) ts
 short_next n t ts short front u rest e = short (t ∷ front) u rest (ap (λ l. t ∷ l) e)
 
-short_here : (n : ℕ) (t : Terminal) (ts : List Terminal) → IsShortAfter n (t ∷ ts) → is_semicolon t ≡ false → n < most_tokens
+short_here : (n : ℕ) (t : Terminal) (ts : List Terminal) → IsShortAfter n (t ∷ ts) → is_symbol symbols.Semicolon t ≡ false → n < most_tokens
 short_here n t ts short counts = grind (arith, short [] t ts refl counts)
 
-short_more : (n : ℕ) (t : Terminal) (ts : List Terminal) → (is_semicolon t ≡ false → n < most_tokens) → IsShortAfter (counted (is_semicolon t) n) ts → IsShortAfter n (t ∷ ts)
+short_more : (n : ℕ) (t : Terminal) (ts : List Terminal) → (is_symbol symbols.Semicolon t ≡ false → n < most_tokens) → IsShortAfter (counted (is_symbol symbols.Semicolon t) n) ts → IsShortAfter n (t ∷ ts)
 short_more n t ts here next [] u rest e counts many =
     let same : u ≡ t = cc in
     let few : n < most_tokens = here (rw same at counts) in

@@ -1,30 +1,19 @@
 -- The pieces of statements: the keyword, and the form of the keyword with the values that the statement has.
 --
--- To add a statement, give its keyword a word in specs/Words.antt and its arm in src/statement.rt; to add a part of
--- forms, its line in `part_pieces` and its printer in proofs/PartPrinters.antt.
-use Rattle.std.specs.Prelude.{ℕ, List, [], ◌∷◌, ◌++◌}
+-- To add a statement, give its keyword a word in specs/Words.antt, and add its arm in src/statement.rt and the arm's line
+-- in proofs/statement/put_statement/Answers.antt. To add a part of forms, add its line in `part_pieces` and its printer in
+-- proofs/PartPrinters.antt.
+use Rattle.std.specs.Prelude.{List, [], ◌∷◌, ◌++◌}
 use Rattle.gx_syntax_tokens.specs.Terminals.{word, number, quoted, symbol}
 use Rattle.gx_syntax_tokens.specs.SpacedText.{Piece, token}
-use Rattle.gx_syntax_tokens.specs.declared.symbol.Symbol.{Symbol}
-use Rattle.gx_syntax_tokens.specs.declared.symbol.Symbol.TheVariants as symbols
 use Rattle.gx_syntax_tree.specs.Forms.{Part, a_name, a_text, a_number, a_cut, a_neighbour, columns, sets, consts, named, merges, sends, condition, subgraph_filter, oriented, active, print_target, counted, Value, Form, fin, mark, say, part, Values, form_of, StmtView, view_of}
 use Rattle.gx_syntax_tree.specs.declared.keyword.StmtKeyword.{StmtKeyword}
 use Rattle.gx_syntax_tree.specs.declared.stmt.Stmt.{Stmt}
-use Rattle.gx_syntax_stmts.specs.Forms.{sign_of}
-use Rattle.gx_syntax_stmts.specs.declared.signs.Sign.{Sign}
-use Rattle.gx_syntax_stmts.specs.declared.signs.Sign.TheVariants as signs
+use Rattle.gx_syntax_stmts.specs.Forms.{symbol_of}
 use Rattle.gx_syntax_show.specs.ExprPieces.{magnitude, expr_pieces}
 use Rattle.gx_syntax_show.specs.ItemPieces.{column_decl_pieces, column_expr_pieces, const_pieces, column_const_pieces, column_merge_pieces, send_clauses_pieces, subgraph_filter_pieces, oriented_pieces, active_pieces}
 use Rattle.gx_syntax_show.specs.ListPieces.{word_pieces, paren_list_pieces}
 use Rattle.gx_syntax_show.specs.Words.{cut_word, neighbour_word, print_target_word, count_target_word, stmt_word}
-
-abbrev pub symbol_of : Sign → Symbol
-symbol_of signs.OpenParen = symbols.OpenParen
-symbol_of signs.CloseParen = symbols.CloseParen
-symbol_of signs.Comma = symbols.Comma
-symbol_of signs.Colon = symbols.Colon
-symbol_of signs.Assign = symbols.Assign
-symbol_of signs.Semicolon = symbols.Semicolon
 
 -- a part of a statement
 abbrev pub part_pieces : (p : Part) → Value p → List Piece
@@ -49,7 +38,7 @@ part_pieces counted t = word_pieces (count_target_word t)
 -- a form with the values of its parts
 abbrev pub form_pieces : (f : Form) → Values f → List Piece
 form_pieces fin v = []
-form_pieces (mark p f) v = token (symbol (symbol_of (sign_of p))) ∷ form_pieces f v
+form_pieces (mark p f) v = token (symbol (symbol_of p)) ∷ form_pieces f v
 form_pieces (say w f) v = token (word w) ∷ form_pieces f v
 form_pieces (part p f) v = part_pieces p v.0 ++ form_pieces f v.1
 

@@ -8,7 +8,7 @@
 //! `gx_syntax` proves the way back.
 //!
 //! A statement's form is defined once, in `gx_syntax_tree`. So a new statement needs its keyword's
-//! word in specs/Words.antt, an arm in `put_statement`, and no lemma.
+//! word in specs/Words.antt, an arm in `put_statement`, and the arm's line in the answers beside it.
 #![tactic(auto)]
 
 mod actions;

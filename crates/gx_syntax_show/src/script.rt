@@ -33,5 +33,5 @@ pub fn show(alloc: Global, script: &Script) -> Result<Text, NoMemory>
     'statements: for statement in script.statements.as_slice() {
         put_line(&mut out, statement)?;
     }
-    out.text(alloc)
+    out.into_text()
 }

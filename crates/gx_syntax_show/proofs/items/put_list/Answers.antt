@@ -11,7 +11,7 @@ items-preserved g c =
     let below : c.items.i < length c.as_slice-item-items.result.now = omega arith in
     let comma : c.if-i-gt0.out ≡ with_pieces c.items.out (comma_before c.items.i) =
     elim c.if-i-gt0.branch [
-      | then-i-gt0+in_ok-symbol-2 w ↦ w.out-is ∙ w.in_ok-symbol-2.ensures ∙ ap (with_pieces c.items.out) (sym (comma-some c.items.i w.if-i-gt0.true))
+      | then-i-gt0+in_ok-symbol-2 w ↦ w.out-is ∙ w.in_ok-symbol-2.ensures.written ∙ ap (with_pieces c.items.out) (sym (comma-some c.items.i w.if-i-gt0.true))
       | else-i-gt0 w ↦ w.out-is ∙ ap (with_pieces c.items.out) (sym (comma-none c.items.i w.if-i-gt0.false))
     ] in
     put_next_item g.E.ListItem.pieces c.as_slice-item-items.result.now c.items.i c.item-item.result _ _ _ _ below c.item-item.is c.items.invariant comma c.in_ok-put.ensures
