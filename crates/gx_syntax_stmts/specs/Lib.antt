@@ -1,5 +1,6 @@
+pub mod TokenTests
+pub mod Keywords
+pub mod Parts
 pub mod Forms
 pub mod Limits
-pub mod TokenTests
-pub mod Parts
 pub mod Refusals
