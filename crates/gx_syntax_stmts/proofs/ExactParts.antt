@@ -142,7 +142,7 @@ pub named_item_exact : {A B : Type 0} {L : List Terminal → A → Type 0} {p : 
 unfolding NamedItem named_item
 named_item_exact make P = after (satisfy_exact name_value (word []) [] refl) (λ name. after (symbol_exact symbols.Colon) (λ _. last (make name) P))
 
--- a token that has a value, if symbols have none, is no symbol
+-- a token that has a value, if symbols have none, is not a symbol
 no_symbol : {A : Type 0} (value : Terminal → Option A) → ((s : Symbol) → value (symbol s) ≡ None) → (s : Symbol) (t : Terminal) (x : A) → value t ≡ Some x → not (is_symbol s t) ≡ true
 no_symbol value free s (word w) x e = refl
 no_symbol value free s (number n) x e = refl

@@ -1,4 +1,4 @@
--- How many tokens stand behind the last `;` of some, and that none of them is one too many, token by token.
+-- How many tokens follow the last `;` of some, and that none of them is one too many for its statement.
 use Rattle.std.proofs.Common.{◌≡◌, ℕ, ◌+◌, ◌<◌, ◌≤◌, ◌⊎◌, inl, inr, Bool, true, false, List, [], ◌∷◌, ◌++◌, length, take, drop, get_or, refl, sym, ◌∙◌, ap, subst, arith, length-append}
 use Rattle.std.proofs.lemmas.List.{drop_more, drop_all, get_or-map, take_all, take_more}
 use Rattle.gx_syntax_tokens.specs.Terminals.{Terminal, is_symbol}
@@ -8,7 +8,7 @@ use Rattle.gx_syntax_tokens.specs.declared.token_value.PlacedToken.{PlacedToken}
 use Rattle.gx_syntax_exprs.specs.Parses.{terminals_of, length-terminals_of}
 use Rattle.gx_syntax_stmts.specs.Limits.{counted, open_len, IsOneTooMany, IsShort, Overflows, IsWithinLimit, most_tokens}
 
--- of the first n tokens none is one too many, and so many of them stand behind the last `;`
+-- of the first n tokens none is one too many, and so many of them follow the last `;`
 pub record IsCounted (ts : List Terminal) (n len : ℕ) : Type 0 where
   pub short : IsShort (take n ts)
   pub counts : open_len 0 (take n ts) ≡ len
@@ -56,7 +56,7 @@ drop-next tokens n d h =
 pub counted_none : (ts : List Terminal) → IsCounted ts 0 0
 counted_none ts = record { short = short-none; counts = refl; few = omega arith }
 
--- the token behind the first n, of which so many stand behind the last `;`
+-- the token after the first n, so many of which follow the last `;`
 module _ (tokens : List PlacedToken) (n len : ℕ) (d : PlacedToken) (b : Bool) (k : IsCounted (terminals_of tokens) n len) (h : n < length tokens) (is : b ≡ is_symbol symbols.Semicolon (terminal_of (get_or tokens n d).value)) where
   counts-next : open_len 0 (take (n + 1) (terminals_of tokens)) ≡ counted b len
   counts-next = ap (open_len 0) (take-next tokens n d h) ∙ open_len-more 0 (take n (terminals_of tokens)) (terminal_of (get_or tokens n d).value) ∙ rw (← is, k.counts) refl
@@ -88,7 +88,7 @@ module _ (tokens : List PlacedToken) (n len : ℕ) (d : PlacedToken) (b : Bool) 
     overflows = subst (Overflows (take n (terminals_of tokens))) (sym (drop-next tokens n d h)) (record { counts = sym is ∙ other; many = omega (arith, k.counts) });
   }
 
--- all tokens, where none is one too many
+-- all tokens, if none is one too many
 pub kept_all : (tokens : List PlacedToken) (n len : ℕ) → IsCounted (terminals_of tokens) n len → length tokens ≤ n → IsWithinLimit (terminals_of tokens) (length tokens)
 kept_all tokens n len k h = record {
   within = omega (arith, length-terminals_of tokens);
