@@ -7,28 +7,28 @@ use Rattle.gx_syntax_exprs.specs.declared.steps.State.{State}
 use Rattle.gx_syntax_exprs.specs.declared.steps.State.TheVariants as states
 use Rattle.gx_syntax_exprs.specs.declared.stack.Frame.{Frame}
 
-abbrev Stays : StepOutcome → Type 0
-Stays a = (s : State) (st : List Frame) → a ≡ continues s st → ⊥
+abbrev NeverContinues : StepOutcome → Type 0
+NeverContinues a = (s : State) (st : List Frame) → a ≡ continues s st → ⊥
 
-over_stays : (x : Expr) (st : List Frame) → Stays (on_end x st)
-over_stays x [] s st' e = cc
-over_stays x (f ∷ st) s st' e = cc
+on_end_never_continues : (x : Expr) (st : List Frame) → NeverContinues (on_end x st)
+on_end_never_continues x [] s st' e = cc
+on_end_never_continues x (f ∷ st) s st' e = cc
 
-refuses_stays : Stays rejects
-refuses_stays s st e = cc
+reject_never_continues : NeverContinues rejects
+reject_never_continues s st e = cc
 
-standing_stays : (o : Option Expr) (st : List Frame) → Stays (on_constant_word o st None)
-standing_stays None st = refuses_stays
-standing_stays (Some x) st = over_stays (reduce 1 x st).0 (reduce 1 x st).1
+on_constant_word_never_continues : (o : Option Expr) (st : List Frame) → NeverContinues (on_constant_word o st None)
+on_constant_word_never_continues None st = reject_never_continues
+on_constant_word_never_continues (Some x) st = on_end_never_continues (reduce 1 x st).0 (reduce 1 x st).1
 
-named_stays : (w : List ℕ) (st : List Frame) (b : Bool) → Stays (if b then rejects else on_constant_word (constant_word w) st None)
-named_stays w st true = refuses_stays
-named_stays w st false = standing_stays (constant_word w) st
+after_word_never_continues : (w : List ℕ) (st : List Frame) (b : Bool) → NeverContinues (if b then rejects else on_constant_word (constant_word w) st None)
+after_word_never_continues w st true = reject_never_continues
+after_word_never_continues w st false = on_constant_word_never_continues (constant_word w) st
 
-pub never_goes : (s : State) (st : List Frame) → Stays (transition s st None)
+pub end_never_continues : (s : State) (st : List Frame) → NeverContinues (transition s st None)
 unfolding transition
-never_goes states.ExpectOperand st = refuses_stays
-never_goes states.AfterCallParen st = refuses_stays
-never_goes (states.AfterWord w) st = named_stays w st (bytes_eq w not_word)
-never_goes (states.AfterDot w) st = refuses_stays
-never_goes (states.AfterOperand x) st = over_stays (reduce 1 x st).0 (reduce 1 x st).1
+end_never_continues states.ExpectOperand st = reject_never_continues
+end_never_continues states.AfterCallParen st = reject_never_continues
+end_never_continues (states.AfterWord w) st = after_word_never_continues w st (bytes_eq w not_word)
+end_never_continues (states.AfterDot w) st = reject_never_continues
+end_never_continues (states.AfterOperand x) st = on_end_never_continues (reduce 1 x st).0 (reduce 1 x st).1

@@ -1,14 +1,14 @@
--- The table of levels, and what an operation that waits comes to.
-use Rattle.std.proofs.Common.{◌≡◌, ℕ, suc, zero, ◌<◌, ◌≤◌, ◌+◌, ◌-◌, Bool, true, false, not, IsTrue, if◌then◌else◌, Option, Some, None, List, [], ◌∷◌, refl, subst, arith, nat_le, bytes_eq}
+-- The table of levels, and the reduction of pending operators.
+use Rattle.std.proofs.Common.{◌≡◌, ℕ, ◌<◌, ◌≤◌, Bool, true, false, not, IsTrue, if◌then◌else◌, Option, Some, None, List, [], ◌∷◌, refl, arith, nat_le, bytes_eq}
 use Rattle.std.proofs.lemmas.Bool.{le-leb, leb-true}
 use Rattle.std.proofs.lemmas.Slice.Eq.{bytes_eq-Decides}
 use Rattle.std.proofs.Common.{codes}
 use Rattle.gx_syntax_tokens.specs.Terminals.{Terminal, word, number, quoted, symbol}
 use Rattle.gx_syntax_tokens.specs.declared.symbol.Symbol.TheVariants as symbols
 use Rattle.gx_syntax_exprs.specs.Operators.{operator, word_operator, infix_token, not_word}
-use Rattle.gx_syntax_tree.specs.Precedence.{binary_precedence, left_precedence, right_precedence, unary_precedence, operand_precedence}
-use Rattle.gx_syntax_exprs.specs.Grammar.{truth_of, matched_of, Spells, above, yes, no, matching, is_name}
-use Rattle.gx_syntax_exprs.specs.PrecedenceParser.{pending_precedence, pending_operand_precedence, apply, min_precedence, reduce, constant_word, is_dot, is_open, is_close, is_comma, is_minus, left_precedence_of, precedence_before}
+use Rattle.gx_syntax_tree.specs.Precedence.{binary_precedence, left_precedence, right_precedence, unary_precedence, operand_precedence, left_precedence-at_most_8, right_precedence-at_most_8, operand_precedence-at_most_8}
+use Rattle.gx_syntax_exprs.specs.Grammar.{truth_expr, matched_expr, Spells, true_literal, false_literal, matched_literal, is_call_name}
+use Rattle.gx_syntax_exprs.specs.PrecedenceParser.{pending_precedence, pending_operand_precedence, apply, min_precedence, reduce, constant_word, left_precedence_of, precedence_before}
 use Rattle.gx_syntax_tree.specs.declared.expr.Expr.{Expr}
 use Rattle.gx_syntax_tree.specs.declared.expr.BinaryOp.{BinaryOp}
 use Rattle.gx_syntax_tree.specs.declared.expr.BinaryOp.TheVariants as binary
@@ -28,40 +28,28 @@ pub binary_precedence-right_precedence : (o : BinaryOp) → binary_precedence o 
 binary_precedence-right_precedence binary.Or = omega arith
 binary_precedence-right_precedence _ = omega arith
 
-pub left_precedence-high : (o : BinaryOp) → left_precedence o ≤ 8
-left_precedence-high binary.Or = omega arith
-left_precedence-high _ = omega arith
-
-pub right_precedence-high : (o : BinaryOp) → right_precedence o ≤ 8
-right_precedence-high binary.Or = omega arith
-right_precedence-high _ = omega arith
-
 pub unary_precedence-operand_precedence : (o : UnaryOp) → unary_precedence o < operand_precedence o
 unary_precedence-operand_precedence unary.Not = omega arith
 unary_precedence-operand_precedence unary.Neg = omega arith
-
-pub operand_precedence-high : (o : UnaryOp) → operand_precedence o ≤ 8
-operand_precedence-high unary.Not = omega arith
-operand_precedence-high unary.Neg = omega arith
 
 pub pending_precedence-pending_operand_precedence : (w : Pending) → pending_precedence w < pending_operand_precedence w
 pending_precedence-pending_operand_precedence (pending.Infix a o) = binary_precedence-right_precedence o
 pending_precedence-pending_operand_precedence (pending.Prefix o) = unary_precedence-operand_precedence o
 
-pub min_precedence-high : (st : List Frame) → min_precedence st ≤ 8
-min_precedence-high [] = omega arith
-min_precedence-high (frames.Operator (pending.Infix a o) ∷ st) = right_precedence-high o
-min_precedence-high (frames.Operator (pending.Prefix o) ∷ st) = operand_precedence-high o
-min_precedence-high (frames.Paren ∷ st) = omega arith
-min_precedence-high (frames.Call f xs ∷ st) = omega arith
+pub min_precedence-at_most_8 : (st : List Frame) → min_precedence st ≤ 8
+min_precedence-at_most_8 [] = omega arith
+min_precedence-at_most_8 (frames.Operator (pending.Infix a o) ∷ st) = right_precedence-at_most_8 o
+min_precedence-at_most_8 (frames.Operator (pending.Prefix o) ∷ st) = operand_precedence-at_most_8 o
+min_precedence-at_most_8 (frames.Paren ∷ st) = omega arith
+min_precedence-at_most_8 (frames.Call f xs ∷ st) = omega arith
 
-pub left_precedence_of-high : (o : Option BinaryOp) → left_precedence_of o ≤ 8
-left_precedence_of-high None = omega arith
-left_precedence_of-high (Some o) = left_precedence-high o
+pub left_precedence_of-at_most_8 : (o : Option BinaryOp) → left_precedence_of o ≤ 8
+left_precedence_of-at_most_8 None = omega arith
+left_precedence_of-at_most_8 (Some o) = left_precedence-at_most_8 o
 
-pub precedence_before-high : (t : Option Terminal) → precedence_before t ≤ 8
-precedence_before-high None = omega arith
-precedence_before-high (Some t) = left_precedence_of-high (operator t)
+pub precedence_before-at_most_8 : (t : Option Terminal) → precedence_before t ≤ 8
+precedence_before-at_most_8 None = omega arith
+precedence_before-at_most_8 (Some t) = left_precedence_of-at_most_8 (operator t)
 
 -- tests
 pub not_le : (a b : ℕ) → b < a → nat_le a b ≡ false
@@ -71,12 +59,12 @@ not_le a b h = go (nat_le a b) refl
     go true e = absurd (let up : a ≤ b = leb-true a b e in omega arith)
     go false e = refl
 
-pub name_of : (w : List ℕ) → bytes_eq w not_word ≡ false → IsTrue (is_name w)
-name_of w e = rw e refl
+pub call_name : (w : List ℕ) → bytes_eq w not_word ≡ false → IsTrue (is_call_name w)
+call_name w e = rw e refl
 
-pub not_of : (b : Bool) → IsTrue (not b) → b ≡ false
-not_of true h = cc
-not_of false h = refl
+pub not_true : (b : Bool) → IsTrue (not b) → b ≡ false
+not_true true h = cc
+not_true false h = refl
 
 -- the token of an operator
 pub operator-infix_token : (o : BinaryOp) → operator (infix_token o) ≡ Some o
@@ -117,61 +105,31 @@ operator_is (number n) o e = cc
 operator_is (quoted s) o e = cc
 operator_is (symbol s) o e = symbol_operator_is s o e
 
-pub dot_is : (t : Terminal) → is_dot t ≡ true → t ≡ symbol symbols.Dot
-dot_is (symbol symbols.Dot) e = refl
-dot_is _ e = cc
-
-pub open_is : (t : Terminal) → is_open t ≡ true → t ≡ symbol symbols.OpenParen
-open_is (symbol symbols.OpenParen) e = refl
-open_is _ e = cc
-
-pub close_is : (t : Terminal) → is_close t ≡ true → t ≡ symbol symbols.CloseParen
-close_is (symbol symbols.CloseParen) e = refl
-close_is _ e = cc
-
-pub comma_is : (t : Terminal) → is_comma t ≡ true → t ≡ symbol symbols.Comma
-comma_is (symbol symbols.Comma) e = refl
-comma_is _ e = cc
-
-pub minus_is : (t : Terminal) → is_minus t ≡ true → t ≡ symbol symbols.Minus
-minus_is (symbol symbols.Minus) e = refl
-minus_is _ e = cc
-
--- a word that is a constant
+-- a word that is a literal
 pub constant_spells : (w : List ℕ) (x : Expr) → constant_word w ≡ Some x → Spells 8 (word w ∷ []) x
 constant_spells w x e = go (bytes_eq w (codes "true")) refl e
   where
-    matched : (c : Bool) → bytes_eq w (codes "matched") ≡ c → (if c then Some matched_of else None) ≡ Some x → Spells 8 (word w ∷ []) x
-    matched true h e = let same : matched_of ≡ x = cc in rw (← same, same_word w (codes "matched") h) matching
+    matched : (c : Bool) → bytes_eq w (codes "matched") ≡ c → (if c then Some matched_expr else None) ≡ Some x → Spells 8 (word w ∷ []) x
+    matched true h e = let same : matched_expr ≡ x = cc in rw (← same, same_word w (codes "matched") h) matched_literal
     matched false h e = cc
 
-    falsehood : (c : Bool) → bytes_eq w (codes "false") ≡ c → (if c then Some (truth_of false) else (if bytes_eq w (codes "matched") then Some matched_of else None)) ≡ Some x → Spells 8 (word w ∷ []) x
-    falsehood true h e = let same : truth_of false ≡ x = cc in rw (← same, same_word w (codes "false") h) no
+    falsehood : (c : Bool) → bytes_eq w (codes "false") ≡ c → (if c then Some (truth_expr false) else (if bytes_eq w (codes "matched") then Some matched_expr else None)) ≡ Some x → Spells 8 (word w ∷ []) x
+    falsehood true h e = let same : truth_expr false ≡ x = cc in rw (← same, same_word w (codes "false") h) false_literal
     falsehood false h e = matched (bytes_eq w (codes "matched")) refl e
 
-    go : (c : Bool) → bytes_eq w (codes "true") ≡ c → (if c then Some (truth_of true) else (if bytes_eq w (codes "false") then Some (truth_of false) else (if bytes_eq w (codes "matched") then Some matched_of else None))) ≡ Some x → Spells 8 (word w ∷ []) x
-    go true h e = let same : truth_of true ≡ x = cc in rw (← same, same_word w (codes "true") h) yes
+    go : (c : Bool) → bytes_eq w (codes "true") ≡ c → (if c then Some (truth_expr true) else (if bytes_eq w (codes "false") then Some (truth_expr false) else (if bytes_eq w (codes "matched") then Some matched_expr else None))) ≡ Some x → Spells 8 (word w ∷ []) x
+    go true h e = let same : truth_expr true ≡ x = cc in rw (← same, same_word w (codes "true") h) true_literal
     go false h e = falsehood (bytes_eq w (codes "false")) refl e
 
--- a tighter level serves at a looser one
-lower : (d k l : ℕ) {ts : List Terminal} {x : Expr} → d + k ≡ l → Spells l ts x → Spells k ts x
-lower zero k l {ts} {x} e s = let same : l ≡ k = omega arith in subst (λ m. Spells m ts x) same s
-lower (suc d) k l {ts} {x} e s =
-    let same : l ≡ suc (d + k) = omega arith in
-    lower d k (d + k) refl (above (subst (λ m. Spells m ts x) same s))
-
-pub lowered : (k l : ℕ) {ts : List Terminal} {x : Expr} → k ≤ l → Spells l ts x → Spells k ts x
-lowered k l h s = lower (l - k) k l (omega arith) s
-
--- operations that stay open, and that end
-pub stays : (k : ℕ) (x : Expr) (st : List Frame) → min_precedence st ≤ k → reduce k x st ≡ (x, st)
-stays k x [] h = refl
-stays k x (frames.Operator w ∷ st) h =
+-- pending operators that stay, and that are applied
+pub reduce_stays : (k : ℕ) (x : Expr) (st : List Frame) → min_precedence st ≤ k → reduce k x st ≡ (x, st)
+reduce_stays k x [] h = refl
+reduce_stays k x (frames.Operator w ∷ st) h =
     let below : pending_precedence w < pending_operand_precedence w = pending_precedence-pending_operand_precedence w in
     let test : nat_le k (pending_precedence w) ≡ false = not_le k (pending_precedence w) (omega arith) in
     rw test refl
-stays k x (frames.Paren ∷ st) h = refl
-stays k x (frames.Call f xs ∷ st) h = refl
+reduce_stays k x (frames.Paren ∷ st) h = refl
+reduce_stays k x (frames.Call f xs ∷ st) h = refl
 
-pub unwinds : (k : ℕ) (w : Pending) (x : Expr) (st : List Frame) → k ≤ pending_precedence w → reduce k x (frames.Operator w ∷ st) ≡ reduce k (apply w x) st
-unwinds k w x st h = let test : nat_le k (pending_precedence w) ≡ true = le-leb k (pending_precedence w) h in rw test refl
+pub reduce_applies : (k : ℕ) (w : Pending) (x : Expr) (st : List Frame) → k ≤ pending_precedence w → reduce k x (frames.Operator w ∷ st) ≡ reduce k (apply w x) st
+reduce_applies k w x st h = let test : nat_le k (pending_precedence w) ≡ true = le-leb k (pending_precedence w) h in rw test refl

@@ -3,8 +3,5 @@ pub mod Ending
 pub mod Expressions
 pub mod Levels
 pub mod Local
-pub mod Positions
-pub mod Combinators
-pub mod Repetition
 pub mod Sound
 pub mod Turns

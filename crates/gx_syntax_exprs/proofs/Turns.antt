@@ -5,37 +5,37 @@ use Rattle.gx_syntax_exprs.specs.PrecedenceParser.{StepOutcome, continues, done,
 use Rattle.gx_syntax_tree.specs.declared.expr.Expr.{Expr}
 use Rattle.gx_syntax_exprs.specs.declared.steps.State.{State}
 use Rattle.gx_syntax_exprs.specs.declared.stack.Frame.{Frame}
-use Rattle.gx_syntax_exprs.proofs.Ending.{never_goes}
+use Rattle.gx_syntax_exprs.proofs.Ending.{end_never_continues}
 
 -- what a turn says of the whole
-abbrev Comes : Result (Expr × List Terminal) (List Terminal) → ℕ → StepOutcome × List Terminal → Type 0
-Comes read n (continues s st, ts) = (read ≡ parse_from s st ts) × (length ts < n)
-Comes read n (done x, ts) = read ≡ Ok (x, ts)
-Comes read n (rejects, ts) = read ≡ Err ts
+abbrev HasOutcome : Result (Expr × List Terminal) (List Terminal) → ℕ → StepOutcome × List Terminal → Type 0
+HasOutcome read n (continues s st, ts) = (read ≡ parse_from s st ts) × (length ts < n)
+HasOutcome read n (done x, ts) = read ≡ Ok (x, ts)
+HasOutcome read n (rejects, ts) = read ≡ Err ts
 
-comes_end : (a : StepOutcome) → ((s : State) (st : List Frame) → a ≡ continues s st → ⊥) → Comes (outcome_at_end a) 0 (a, [])
-comes_end (continues s st) h = absurd (h s st refl)
-comes_end (done x) h = refl
-comes_end rejects h = refl
+outcome_at_the_end : (a : StepOutcome) → ((s : State) (st : List Frame) → a ≡ continues s st → ⊥) → HasOutcome (outcome_at_end a) 0 (a, [])
+outcome_at_the_end (continues s st) h = absurd (h s st refl)
+outcome_at_the_end (done x) h = refl
+outcome_at_the_end rejects h = refl
 
-comes_on : (t : Terminal) (ts : List Terminal) (a : StepOutcome) → Comes (outcome_then (λ s' st'. parse_from s' st' ts) (t ∷ ts) a) (length (t ∷ ts)) (outcome_with_rest a t ts)
-comes_on t ts (continues s st) = (refl, omega arith)
-comes_on t ts (done x) = refl
-comes_on t ts rejects = refl
+outcome_of_token : (t : Terminal) (ts : List Terminal) (a : StepOutcome) → HasOutcome (outcome_then (λ s' st'. parse_from s' st' ts) (t ∷ ts) a) (length (t ∷ ts)) (outcome_with_rest a t ts)
+outcome_of_token t ts (continues s st) = (refl, omega arith)
+outcome_of_token t ts (done x) = refl
+outcome_of_token t ts rejects = refl
 
-comes : (s : State) (st : List Frame) (ts : List Terminal) → Comes (parse_from s st ts) (length ts) (step_over s st ts)
+outcome_of_step : (s : State) (st : List Frame) (ts : List Terminal) → HasOutcome (parse_from s st ts) (length ts) (step_over s st ts)
 unfolding parse_from
-comes s st [] = comes_end (transition s st None) (never_goes s st)
-comes s st (t ∷ ts) = comes_on t ts (transition s st (Some t))
+outcome_of_step s st [] = outcome_at_the_end (transition s st None) (end_never_continues s st)
+outcome_of_step s st (t ∷ ts) = outcome_of_token t ts (transition s st (Some t))
 
-pub turn_goes : (s : State) (st : List Frame) (ts : List Terminal) (s' : State) (st' : List Frame) (ts' : List Terminal) → (continues s' st', ts') ≡ step_over s st ts → parse_from s' st' ts' ≡ parse_from s st ts
-turn_goes s st ts s' st' ts' e = sym ((rw (← e) at (comes s st ts)).0)
+pub step_continues : (s : State) (st : List Frame) (ts : List Terminal) (s' : State) (st' : List Frame) (ts' : List Terminal) → (continues s' st', ts') ≡ step_over s st ts → parse_from s' st' ts' ≡ parse_from s st ts
+step_continues s st ts s' st' ts' e = sym ((rw (← e) at (outcome_of_step s st ts)).0)
 
-pub turn_shorter : (s : State) (st : List Frame) (ts : List Terminal) (s' : State) (st' : List Frame) (ts' : List Terminal) → (continues s' st', ts') ≡ step_over s st ts → length ts' < length ts
-turn_shorter s st ts s' st' ts' e = (rw (← e) at (comes s st ts)).1
+pub step_shortens : (s : State) (st : List Frame) (ts : List Terminal) (s' : State) (st' : List Frame) (ts' : List Terminal) → (continues s' st', ts') ≡ step_over s st ts → length ts' < length ts
+step_shortens s st ts s' st' ts' e = (rw (← e) at (outcome_of_step s st ts)).1
 
-pub turn_ends : (s : State) (st : List Frame) (ts : List Terminal) (x : Expr) (ts' : List Terminal) → (done x, ts') ≡ step_over s st ts → parse_from s st ts ≡ Ok (x, ts')
-turn_ends s st ts x ts' e = rw (← e) at (comes s st ts)
+pub step_done : (s : State) (st : List Frame) (ts : List Terminal) (x : Expr) (ts' : List Terminal) → (done x, ts') ≡ step_over s st ts → parse_from s st ts ≡ Ok (x, ts')
+step_done s st ts x ts' e = rw (← e) at (outcome_of_step s st ts)
 
-pub turn_refuses : (s : State) (st : List Frame) (ts ts' : List Terminal) → (rejects, ts') ≡ step_over s st ts → parse_from s st ts ≡ Err ts'
-turn_refuses s st ts ts' e = rw (← e) at (comes s st ts)
+pub step_rejects : (s : State) (st : List Frame) (ts ts' : List Terminal) → (rejects, ts') ≡ step_over s st ts → parse_from s st ts ≡ Err ts'
+step_rejects s st ts ts' e = rw (← e) at (outcome_of_step s st ts)

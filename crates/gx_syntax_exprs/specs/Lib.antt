@@ -1,6 +1,10 @@
-pub mod StepOutcomes
-pub mod Grammar
-pub mod Parses
 pub mod Operators
+pub mod Grammar
 pub mod Combinators
+pub mod ExactParsers
+pub mod ExactRepetition
+pub mod Parses
+pub mod TokenParsers
+pub mod Expressions
 pub mod PrecedenceParser
+pub mod StepOutcomes

@@ -1,4 +1,8 @@
--- The operators, from the loosest to the tightest: `or`, `and`, `not`, comparisons, sums, products, the sign.
+-- The tokens of the operators, from the loosest to the tightest: `or`, `and`, `not`, comparisons,
+-- sums, products, the sign.
+--
+-- To add an operator, change its token here, the function that finds it (`symbol_operator` or
+-- `word_operator`, here and in src/operators.rt), and its levels in gx_syntax_tree.
 use Rattle.std.specs.Prelude.{ℕ, Option, Some, None, if◌then◌else◌, codes, bytes_eq, List}
 use Rattle.gx_syntax_tokens.specs.Terminals.{Terminal, word, number, quoted, symbol}
 use Rattle.gx_syntax_tokens.specs.declared.symbol.Symbol.{Symbol}
@@ -8,10 +12,11 @@ use Rattle.gx_syntax_tree.specs.declared.expr.BinaryOp.TheVariants as binary
 use Rattle.gx_syntax_tree.specs.declared.expr.UnaryOp.{UnaryOp}
 use Rattle.gx_syntax_tree.specs.declared.expr.UnaryOp.TheVariants as unary
 
+-- the word of the operator `not`
 abbrev pub not_word : List ℕ
 not_word = codes "not"
 
--- the token of an operator between its operands
+-- the token of an infix operator
 abbrev pub infix_token : BinaryOp → Terminal
 infix_token binary.Or = word (codes "or")
 infix_token binary.And = word (codes "and")
@@ -27,12 +32,12 @@ infix_token binary.Mul = symbol symbols.Star
 infix_token binary.Div = symbol symbols.Slash
 infix_token binary.Rem = symbol symbols.Percent
 
--- the token of an operator before its operand
+-- the token of a prefix operator
 abbrev pub prefix_token : UnaryOp → Terminal
 prefix_token unary.Not = word not_word
 prefix_token unary.Neg = symbol symbols.Minus
 
--- the operator between operands that a symbol is
+-- the infix operator that a symbol is
 abbrev pub symbol_operator : Symbol → Option BinaryOp
 symbol_operator symbols.Equal = Some binary.Eq
 symbol_operator symbols.NotEqual = Some binary.Ne
@@ -47,11 +52,11 @@ symbol_operator symbols.Slash = Some binary.Div
 symbol_operator symbols.Percent = Some binary.Rem
 symbol_operator _ = None
 
--- the operator between operands that a word is
+-- the infix operator that a word is
 abbrev pub word_operator : List ℕ → Option BinaryOp
 word_operator w = if bytes_eq w (codes "or") then Some binary.Or else (if bytes_eq w (codes "and") then Some binary.And else None)
 
--- the operator between operands that a token is
+-- the infix operator that a token is
 abbrev pub operator : Terminal → Option BinaryOp
 operator (word w) = word_operator w
 operator (number n) = None

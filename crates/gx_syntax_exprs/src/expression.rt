@@ -1,42 +1,45 @@
-//! Expressions.
+//! The parser of expressions: a loop over the tokens with an explicit stack, so that deep nesting
+//! costs heap and not the machine's stack.
 
-ghost use Rattle.std.specs.Prelude.{◌≡◌, ◌≤◌, IfOk, drop, length};
-ghost use Rattle.gx_syntax_exprs.specs.StepOutcomes.{outcome_of};
-ghost use Rattle.gx_syntax_exprs.specs.Parses.{Parses, terminals_of};
-ghost use Rattle.gx_syntax_exprs.specs.PrecedenceParser as reading;
+ghost use Rattle.std.specs.Prelude.{◌≡◌};
+ghost use Rattle.gx_syntax_exprs.specs.StepOutcomes.{StepsOver};
+ghost use Rattle.gx_syntax_exprs.specs.Expressions.{expression};
+ghost use Rattle.gx_syntax_exprs.specs.Grammar.{Spells};
+ghost use Rattle.gx_syntax_exprs.specs.Parses.{FollowsGrammar, Parses};
+ghost use Rattle.gx_syntax_exprs.specs.PrecedenceParser as parser;
 
+use crate::cursor::Cursor;
 use crate::parse_stop::ParseStop;
 use crate::stack::Stack;
 use crate::steps::{State, Step, transition, transition_at_end};
-use gx_syntax_tree::Expr;
 use gx_rows::NoMemory;
-use gx_syntax_tokens::PlacedToken;
+use gx_syntax_tree::Expr;
 use std::alloc::Global;
 
-/// The tokens that are left. Where a method refuses, they begin with the refused token.
-#[derive(Drop)]
-struct Cursor<'a> {
-    rest: &'a [PlacedToken<'a>],
-}
-
 impl<'a> Cursor<'a> {
-    /// The next token, or the end, of an expression. The token is read where the expression goes on.
+    /// The next token, or the end, of an expression; the token is taken if the expression goes on.
     fn step(&mut self, alloc: Global, stack: &mut Stack, state: State) -> Result<Step, NoMemory>
-        ensures { IfOk result (λ step. (outcome_of step stack.new, terminals_of self.new.rest.now) ≡ reading.step_over state stack.old (terminals_of self.old.rest.now)) }
+        ensures { StepsOver result stack.new self.new (parser.step_over state stack.old self.old) }
     {
-        let [placed, others @ ..] = self.rest else {
+        let Some(token) = self.peek() else {
             return transition_at_end(alloc, stack, state);
         };
-        let step = transition(alloc, stack, state, placed.value)?;
+        let step = transition(alloc, stack, state, token)?;
         if let Step::Continue(_) = &step {
-            self.rest = others;
+            self.advance();
         }
         Ok(step)
     }
 
-    /// Reads an expression, as long as one can go on.
-    fn expression(&mut self, alloc: Global) -> Result<Expr, ParseStop>
-        ensures { Parses result (terminals_of self.new.rest.now) (reading.expression (terminals_of self.old.rest.now)) }
+    /// Parses the longest expression that the tokens begin with.
+    ///
+    /// # Errors
+    ///
+    /// `Refused`, and `NoMemory`.
+    #[tactic(auto, unfolding(crate::specs::Expressions::expression))]
+    pub fn expression(&mut self, alloc: Global) -> Result<Expr, ParseStop>
+        ensures parsed { Parses result self.new (expression self.old) }
+        ensures spelled { FollowsGrammar (Spells 1) result self.new self.old }
     {
         let mut stack = Stack::new(alloc);
         let mut state = State::ExpectOperand;
@@ -47,24 +50,5 @@ impl<'a> Cursor<'a> {
                 Step::Reject => return Err(ParseStop::Refused),
             }
         }
-    }
-}
-
-/// Reads an expression at the front of tokens, as long as one can go on; beside the answer is how
-/// many tokens stand before those that are left.
-///
-/// # Errors
-///
-/// `Refused` where the first of the tokens that are left, or their end, goes on no expression, and
-/// `NoMemory`.
-pub fn parse_expression(alloc: Global, tokens: &[PlacedToken<'_>]) -> (Result<Expr, ParseStop>, usize)
-    ensures read { Parses result.0 (drop result.1 (terminals_of tokens.now)) (reading.expression (terminals_of tokens.now)) }
-    ensures within { result.1 ≤ length tokens.now }
-{
-    let mut cursor = Cursor { rest: tokens };
-    match cursor.expression(alloc) {
-        Ok(x) => (Ok(x), tokens.len() - cursor.rest.len()),
-        Err(ParseStop::Refused) => (Err(ParseStop::Refused), tokens.len() - cursor.rest.len()),
-        Err(ParseStop::NoMemory) => (Err(ParseStop::NoMemory), 0),
     }
 }

@@ -1,20 +1,21 @@
-//! The trees of scripts, and the grammar of expressions: which tokens spell which tree, and the
-//! reader of expressions.
+//! The grammar of expressions and its parser, and the cursor over tokens that all parsers share.
 //!
-//! A script is a list of statements, each a variant of `Stmt` with the parts that its spelling has.
-//! `specs/Grammar.antt` has the expressions by the levels of their operators. `specs/Readers.antt`
-//! says what it means that a reader reads just the words of a language, over any tokens. The crate
-//! stands on the tokens of `gx_tokens` and on the kit's `sqlite_items`, by which a tree may hold
-//! trees; the reader of statements, the printer and the checks of types stand on it.
+//! `Cursor` is seen as the list of the tokens that remain. `specs/Grammar.antt` says which tokens
+//! spell which expression, by the levels of the operators. `specs/Combinators.antt` says what it
+//! means that a parser is exact for a language, over tokens of any type, and
+//! `specs/ExactParsers.antt` that parsers put together from exact ones are exact. The crate depends
+//! on the tokens of `gx_syntax_tokens` and on the tree of `gx_syntax_tree`; the parser of
+//! statements and the printer depend on it. It never sees the text of a script, nor a byte offset.
 #![tactic(auto)]
 
+mod cursor;
 mod expression;
-mod parse_stop;
-mod marks;
+mod laws;
 mod operators;
+mod parse_stop;
 mod stack;
 mod steps;
 
-pub use expression::parse_expression;
+pub use cursor::{Cursor, Keyword};
+pub use laws::expressions_are_parsed_exactly;
 pub use parse_stop::ParseStop;
-pub use marks::{is_close, is_comma, is_dot, is_minus, is_open};

@@ -1,15 +1,15 @@
-//! The levels of operators, and the tokens that are operators.
+//! The infix operator that a token is. Levels are in `gx_syntax_tree`.
 
 ghost use Rattle.std.specs.Prelude.{◌≡◌};
 ghost use Rattle.gx_syntax_tokens.specs.TokenTexts.{terminal_of};
-ghost use Rattle.gx_syntax_exprs.specs.Operators as grammar;
+ghost use Rattle.gx_syntax_exprs.specs.Operators as ops;
 
+use gx_syntax_tokens::{Symbol, TokenValue};
 use gx_syntax_tree::{BinaryOp, UnaryOp};
-use gx_syntax_tokens::{TokenValue, Symbol};
 
-/// The operator between operands that a word is.
+/// The infix operator that a word is.
 fn word_operator(word: &str) -> Option<BinaryOp>
-    ensures { result ≡ grammar.word_operator word.now }
+    ensures { result ≡ ops.word_operator word.now }
 {
     if word == "or" {
         Some(BinaryOp::Or)
@@ -20,9 +20,9 @@ fn word_operator(word: &str) -> Option<BinaryOp>
     }
 }
 
-/// The operator between operands that a symbol is.
+/// The infix operator that a symbol is.
 fn symbol_operator(symbol: Symbol) -> Option<BinaryOp>
-    ensures { result ≡ grammar.symbol_operator symbol }
+    ensures { result ≡ ops.symbol_operator symbol }
 {
     match symbol {
         Symbol::Equal => Some(BinaryOp::Eq),
@@ -46,9 +46,9 @@ fn symbol_operator(symbol: Symbol) -> Option<BinaryOp>
     }
 }
 
-/// The operator between operands that a token is.
+/// The infix operator that a token is.
 pub(crate) fn operator(token: TokenValue<'_>) -> Option<BinaryOp>
-    ensures { result ≡ grammar.operator (terminal_of token.entry) }
+    ensures { result ≡ ops.operator (terminal_of token.entry) }
 {
     match token {
         TokenValue::Word(word) => word_operator(word),

@@ -1,4 +1,4 @@
-//! Where a reader stops.
+//! Why a parser stops.
 
 ghost use Rattle.std.specs.Prelude.{◌≡◌};
 ghost use Rattle.gx_syntax_exprs.specs.declared.parse_stop.ParseStop.TheVariants as stops;
@@ -6,17 +6,17 @@ ghost use Rattle.gx_syntax_exprs.specs.declared.parse_stop.ParseStop.TheVariants
 use gx_rows::NoMemory;
 use std::alloc::{AllocError, AllocFailed};
 
-/// Why a reader stopped.
+/// Why a parser stopped.
 #[derive(Clone, Copy, Debug, PartialEq, Eq)]
 pub enum ParseStop {
-    /// The next token, or the end, is refused.
+    /// The next token, or the end, is refused: nothing that may be parsed goes on with it.
     Refused,
-    /// Want of memory.
+    /// Out of memory.
     NoMemory,
 }
 
 impl From<NoMemory> for ParseStop {
-    ghost from_gives = { λ _ halt. halt ≡ stops.NoMemory };
+    ghost from_gives = { λ _ stop. stop ≡ stops.NoMemory };
 
     fn from(_error: NoMemory) -> ParseStop {
         ParseStop::NoMemory
@@ -24,7 +24,7 @@ impl From<NoMemory> for ParseStop {
 }
 
 impl From<AllocError> for ParseStop {
-    ghost from_gives = { λ _ halt. halt ≡ stops.NoMemory };
+    ghost from_gives = { λ _ stop. stop ≡ stops.NoMemory };
 
     fn from(_error: AllocError) -> ParseStop {
         ParseStop::NoMemory
@@ -32,7 +32,7 @@ impl From<AllocError> for ParseStop {
 }
 
 impl<T: Drop> From<AllocFailed<T>> for ParseStop {
-    ghost from_gives = { λ _ halt. halt ≡ stops.NoMemory };
+    ghost from_gives = { λ _ stop. stop ≡ stops.NoMemory };
 
     fn from(_error: AllocFailed<T>) -> ParseStop {
         ParseStop::NoMemory

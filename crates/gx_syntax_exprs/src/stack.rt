@@ -1,71 +1,71 @@
-//! What an expression has begun and not ended, from the inside out.
+//! The stack of what an expression has begun and not ended: operators that wait for an operand,
+//! open parentheses, and calls. Contracts see it as a list with the innermost first.
 
-ghost use Rattle.std.specs.Prelude.{◌≡◌, ◌∷◌, [], None, Some, MatchOption, OnOk, IfOk};
-ghost use Rattle.gx_syntax_exprs.specs.Operators as grammar;
-ghost use Rattle.gx_syntax_exprs.specs.Grammar.{binary_of, unary_of};
-ghost use Rattle.gx_syntax_exprs.specs.PrecedenceParser.{apply, pending_operand_precedence, pending_at_least, min_precedence, reduce, pending_precedence};
+ghost use Rattle.std.specs.Prelude.{◌≡◌, ◌∷◌, [], OnOk, IfOk};
+ghost use Rattle.gx_syntax_exprs.specs.Grammar.{binary_expr, unary_expr};
+ghost use Rattle.gx_syntax_exprs.specs.PrecedenceParser as parser;
 
-use gx_syntax_tree::{BinaryOp, Expr, UnaryOp};
 use gx_rows::{NoMemory, Text};
+use gx_syntax_tree::{BinaryOp, Expr, UnaryOp};
 use sqlite_items::{Boxed, Items};
 use std::alloc::Global;
 use std::marker::Model;
 
-/// An operator that waits for the operand behind it.
+/// An operator whose last operand is still to be parsed.
 #[derive(Drop)]
 pub(crate) enum Pending {
-    /// With the operand before it.
+    /// An infix operator with its left operand.
     Infix(Expr, BinaryOp),
-    /// It stands before its operand.
+    /// A prefix operator.
     Prefix(UnaryOp),
 }
 
-/// What was begun.
+/// A part of an expression that was begun and not ended.
 #[derive(Drop)]
 pub(crate) enum Frame {
-    /// An operation.
+    /// An operation that lacks its last operand.
     Operator(Pending),
-    /// A parenthesis.
+    /// An open parenthesis.
     Paren,
-    /// A call, with the arguments that are read.
+    /// An open call, with the arguments that were parsed.
     Call(Text, Items<Expr>),
 }
 
 /// The level of the operation.
-fn pending_precedence(waiting: &Pending) -> u8
-    ensures { result ≡ pending_precedence waiting.now }
+fn pending_precedence(pending: &Pending) -> u8
+    ensures { result ≡ parser.pending_precedence pending.now }
 {
-    match waiting {
+    match pending {
         Pending::Infix(_, operator) => operator.precedence(),
         Pending::Prefix(operator) => operator.precedence(),
     }
 }
 
-/// The least level of the operand that it waits for.
-fn pending_operand_precedence(waiting: &Pending) -> u8
-    ensures { result ≡ pending_operand_precedence waiting.now }
+/// The least level of its last operand.
+fn pending_operand_precedence(pending: &Pending) -> u8
+    ensures { result ≡ parser.pending_operand_precedence pending.now }
 {
-    match waiting {
+    match pending {
         Pending::Infix(_, operator) => operator.right_precedence(),
         Pending::Prefix(operator) => operator.operand_precedence(),
     }
 }
 
-/// The whole operation.
-fn apply(alloc: Global, waiting: Pending, behind: Expr) -> Result<Expr, NoMemory>
-    ensures { IfOk result (λ x. x ≡ apply waiting behind) }
+/// The operation with its last operand.
+fn apply(alloc: Global, pending: Pending, last: Expr) -> Result<Expr, NoMemory>
+    ensures { IfOk result (λ x. x ≡ parser.apply pending last) }
 {
-    match waiting {
-        Pending::Infix(front, operator) => {
-            let front = Boxed::new(alloc, front)?;
-            let behind = Boxed::new(alloc, behind)?;
-            Ok(Expr::Binary(operator, front, behind))
+    match pending {
+        Pending::Infix(left, operator) => {
+            let left = Boxed::new(alloc, left)?;
+            let right = Boxed::new(alloc, last)?;
+            Ok(Expr::Binary(operator, left, right))
         }
-        Pending::Prefix(operator) => Ok(Expr::Unary(operator, Boxed::new(alloc, behind)?)),
+        Pending::Prefix(operator) => Ok(Expr::Unary(operator, Boxed::new(alloc, last)?)),
     }
 }
 
-/// What was begun, seen as a list with the innermost first.
+/// What was begun and not ended, the innermost last.
 #[derive(Drop)]
 pub(crate) struct Stack {
     frames: Vec<Frame>,
@@ -101,50 +101,50 @@ impl Stack {
     }
 
     pub(crate) fn pop(&mut self) -> Option<Frame>
-        ensures { MatchOption result ((self.old ≡ []) × (self.new ≡ [])) (λ frame. self.old ≡ frame ∷ self.new) }
+        ensures { parser.Pops self.old result self.new }
     {
         self.frames.pop()
     }
 
-    /// The least level of the operand that is read.
+    /// The least level of the operand that is parsed next.
     pub(crate) fn min_precedence(&self) -> u8
-        ensures { result ≡ min_precedence self.now }
+        ensures { result ≡ parser.min_precedence self.now }
     {
         match self.frames.last() {
-            Some(Frame::Operator(waiting)) => pending_operand_precedence(waiting),
+            Some(Frame::Operator(pending)) => pending_operand_precedence(pending),
             Some(Frame::Paren) => 1,
             Some(Frame::Call(_, _)) => 1,
             None => 1,
         }
     }
 
-    /// Takes the innermost operation, where its level is at least this.
+    /// Removes the innermost operation if its level is at least this.
     fn pop_pending(&mut self, least: u8) -> Option<Pending>
-        ensures { MatchOption result ((pending_at_least least self.old ≡ None) × (self.new ≡ self.old)) (λ w. pending_at_least least self.old ≡ Some (w, self.new)) }
+        ensures { parser.PopsPending least self.old result self.new }
     {
         match self.frames.last() {
-            Some(Frame::Operator(waiting)) if least <= pending_precedence(waiting) => {}
+            Some(Frame::Operator(pending)) if least <= pending_precedence(pending) => {}
             _ => return None,
         }
         match self.frames.pop() {
-            Some(Frame::Operator(waiting)) => Some(waiting),
+            Some(Frame::Operator(pending)) => Some(pending),
             _ => None,
         }
     }
 }
 
-/// The expression, with all operations of this level and more that end with it.
+/// Applies the operations of this level and more that end with the operand, and returns the result.
 pub(crate) fn reduce(
     alloc: Global,
     stack: &mut Stack,
     least: u8,
     first: Expr,
 ) -> Result<Expr, NoMemory>
-    ensures { IfOk result (λ x. (x, stack.new) ≡ reduce least first stack.old) }
+    ensures { IfOk result (λ x. (x, stack.new) ≡ parser.reduce least first stack.old) }
 {
     let mut x = first;
-    while let Some(waiting) = stack.pop_pending(least) {
-        x = apply(alloc, waiting, x)?;
+    while let Some(pending) = stack.pop_pending(least) {
+        x = apply(alloc, pending, x)?;
     }
     Ok(x)
 }

@@ -1,33 +1,33 @@
-//! One token of an expression.
+//! One token of an expression: what it does to the state and the stack of the parser. A new kind of
+//! operand is a branch of `on_atom` or `after_word`, with its definition in
+//! specs/PrecedenceParser.antt.
 
-ghost use Rattle.std.specs.Prelude.{◌≡◌, ◌∷◌, ◌≤◌, [], None, Some, MatchOption, IfOk, option_map, true, false, bytes_eq};
+ghost use Rattle.std.specs.Prelude.{◌≡◌, None, bytes_eq};
 ghost use Rattle.gx_syntax_tokens.specs.TokenTexts.{terminal_of};
 ghost use Rattle.gx_syntax_exprs.specs.Operators.{not_word};
-ghost use Rattle.gx_syntax_exprs.specs.Grammar as grammar;
-ghost use Rattle.gx_syntax_exprs.specs.PrecedenceParser as reading;
-ghost use Rattle.gx_syntax_exprs.specs.StepOutcomes.{outcome_of};
+ghost use Rattle.gx_syntax_exprs.specs.PrecedenceParser as parser;
+ghost use Rattle.gx_syntax_exprs.specs.StepOutcomes.{Steps, next_terminal, outcome_of, terminal_at};
 
-use crate::marks::{is_close, is_comma, is_dot, is_minus, is_open};
 use crate::operators::operator;
-use crate::stack::{Frame, Stack, Pending, reduce};
-use gx_syntax_tree::{BinaryOp, Expr, UnaryOp};
+use crate::stack::{Frame, Pending, Stack, reduce};
 use gx_rows::{NoMemory, Text};
-use gx_syntax_tokens::{TokenValue, unescape};
+use gx_syntax_tokens::{Symbol, TokenValue, unescape};
+use gx_syntax_tree::{BinaryOp, Expr, UnaryOp};
 use sqlite_items::Items;
 use std::alloc::Global;
 
-/// Where in an expression a token stands.
+/// What the token before the next one was.
 #[derive(Drop)]
 pub(crate) enum State {
-    /// Where an operand is wanted.
+    /// An operand is expected.
     ExpectOperand,
-    /// Behind the parenthesis of a call.
+    /// The open parenthesis of a call.
     AfterCallParen,
-    /// Behind a word, where an operand was wanted.
+    /// A word at the start of an operand.
     AfterWord(Text),
-    /// Behind that word and a dot.
+    /// That word and a dot.
     AfterDot(Text),
-    /// Behind an operand.
+    /// The end of an operand.
     AfterOperand(Expr),
 }
 
@@ -42,15 +42,16 @@ pub(crate) enum Step {
     Reject,
 }
 
+/// Whether a word is the operator `not`, if nothing after it says that it is a side.
 fn is_not(word: &str) -> bool
     ensures { result ≡ bytes_eq word.now not_word }
 {
     word == "not"
 }
 
-/// The constant that a word is where it stands alone.
+/// The literal that a word is, if it is not a name.
 fn constant_word(word: &str) -> Option<Expr>
-    ensures { result ≡ reading.constant_word word.now }
+    ensures { result ≡ parser.constant_word word.now }
 {
     if word == "true" {
         Some(Expr::Truth(true))
@@ -63,9 +64,9 @@ fn constant_word(word: &str) -> Option<Expr>
     }
 }
 
-/// Behind a whole operand: `)`.
+/// `)` after a whole operand.
 fn on_close_paren(stack: &mut Stack, x: Expr) -> Result<Step, NoMemory>
-    ensures { IfOk result (λ step. outcome_of step stack.new ≡ reading.on_close_paren x stack.old) }
+    ensures { Steps result stack.new (parser.on_close_paren x stack.old) }
 {
     match stack.pop() {
         None => Ok(Step::Done(x)),
@@ -78,9 +79,9 @@ fn on_close_paren(stack: &mut Stack, x: Expr) -> Result<Step, NoMemory>
     }
 }
 
-/// Behind a whole operand: `,`.
+/// `,` after a whole operand.
 fn on_comma(stack: &mut Stack, x: Expr) -> Result<Step, NoMemory>
-    ensures { IfOk result (λ step. outcome_of step stack.new ≡ reading.on_comma x stack.old) }
+    ensures { Steps result stack.new (parser.on_comma x stack.old) }
 {
     match stack.pop() {
         None => Ok(Step::Done(x)),
@@ -94,9 +95,9 @@ fn on_comma(stack: &mut Stack, x: Expr) -> Result<Step, NoMemory>
     }
 }
 
-/// Behind a whole operand: the end, or a token that no expression goes on with.
+/// The end, or a token with which no expression goes on, after a whole operand.
 fn on_end(stack: &mut Stack, x: Expr) -> Step
-    ensures { outcome_of result stack.new ≡ reading.on_end x stack.old }
+    ensures { outcome_of result stack.new ≡ parser.on_end x stack.old }
 {
     match stack.pop() {
         None => Step::Done(x),
@@ -104,9 +105,9 @@ fn on_end(stack: &mut Stack, x: Expr) -> Step
     }
 }
 
-/// Behind a whole operand: an operator.
+/// An infix operator after a whole operand.
 fn on_operator(stack: &mut Stack, operator: BinaryOp, x: Expr) -> Result<Step, NoMemory>
-    ensures { IfOk result (λ step. outcome_of step stack.new ≡ reading.on_operator operator x stack.old) }
+    ensures { Steps result stack.new (parser.on_operator operator x stack.old) }
 {
     if stack.min_precedence() <= operator.precedence() {
         stack.push(Frame::Operator(Pending::Infix(x, operator)))?;
@@ -116,22 +117,27 @@ fn on_operator(stack: &mut Stack, operator: BinaryOp, x: Expr) -> Result<Step, N
     }
 }
 
-/// Behind a whole operand: a token that is no operator.
+/// A token that is not an operator, after a whole operand.
 fn on_delimiter(stack: &mut Stack, token: TokenValue<'_>, x: Expr) -> Result<Step, NoMemory>
-    ensures { IfOk result (λ step. outcome_of step stack.new ≡ reading.on_delimiter (terminal_of token.entry) x stack.old) }
+    ensures { Steps result stack.new (parser.on_delimiter (terminal_of token.entry) x stack.old) }
 {
-    if is_close(token) {
+    if token.is(Symbol::CloseParen) {
         on_close_paren(stack, x)
-    } else if is_comma(token) {
+    } else if token.is(Symbol::Comma) {
         on_comma(stack, x)
     } else {
         Ok(on_end(stack, x))
     }
 }
 
-/// Behind an operand: a token.
-fn on_other(alloc: Global, stack: &mut Stack, x: Expr, token: TokenValue<'_>) -> Result<Step, NoMemory>
-    ensures { IfOk result (λ step. outcome_of step stack.new ≡ reading.after_operand x stack.old (Some (terminal_of token.entry))) }
+/// A token after an operand.
+fn on_other(
+    alloc: Global,
+    stack: &mut Stack,
+    x: Expr,
+    token: TokenValue<'_>,
+) -> Result<Step, NoMemory>
+    ensures { Steps result stack.new (parser.after_operand x stack.old (next_terminal token.entry)) }
 {
     match operator(token) {
         Some(operator) => {
@@ -145,14 +151,14 @@ fn on_other(alloc: Global, stack: &mut Stack, x: Expr, token: TokenValue<'_>) ->
     }
 }
 
-/// Behind an operand: a token, or the end.
+/// A token, or the end, after an operand.
 fn after_operand(
     alloc: Global,
     stack: &mut Stack,
     x: Expr,
     next: Option<TokenValue<'_>>,
 ) -> Result<Step, NoMemory>
-    ensures { IfOk result (λ step. outcome_of step stack.new ≡ reading.after_operand x stack.old (option_map terminal_of next.entry)) }
+    ensures { Steps result stack.new (parser.after_operand x stack.old (terminal_at next.entry)) }
 {
     match next {
         Some(token) => on_other(alloc, stack, x, token),
@@ -163,9 +169,9 @@ fn after_operand(
     }
 }
 
-/// Where an operand is wanted: a token that is no symbol.
+/// A token that is not a symbol, at the start of an operand.
 fn on_atom(alloc: Global, token: TokenValue<'_>, stack: &mut Stack) -> Result<Step, NoMemory>
-    ensures { IfOk result (λ step. outcome_of step stack.new ≡ reading.on_atom (terminal_of token.entry) stack.old) }
+    ensures { Steps result stack.new (parser.on_atom (terminal_of token.entry) stack.old) }
 {
     match token {
         TokenValue::Word(word) => Ok(Step::Continue(State::AfterWord(Text::of(alloc, word)?))),
@@ -176,19 +182,25 @@ fn on_atom(alloc: Global, token: TokenValue<'_>, stack: &mut Stack) -> Result<St
                 Ok(Step::Reject)
             }
         }
-        TokenValue::Quoted(raw) => Ok(Step::Continue(State::AfterOperand(Expr::Quoted(unescape(alloc, raw)?)))),
+        TokenValue::Quoted(raw) => Ok(Step::Continue(State::AfterOperand(Expr::Quoted(unescape(
+            alloc, raw,
+        )?)))),
         TokenValue::Symbol(_) => Ok(Step::Reject),
     }
 }
 
-/// Where an operand is wanted.
-fn on_operand_start(alloc: Global, token: TokenValue<'_>, stack: &mut Stack) -> Result<Step, NoMemory>
-    ensures { IfOk result (λ step. outcome_of step stack.new ≡ reading.on_operand_start (terminal_of token.entry) stack.old) }
+/// The first token of an operand.
+fn on_operand_start(
+    alloc: Global,
+    token: TokenValue<'_>,
+    stack: &mut Stack,
+) -> Result<Step, NoMemory>
+    ensures { Steps result stack.new (parser.on_operand_start (terminal_of token.entry) stack.old) }
 {
-    if is_open(token) {
+    if token.is(Symbol::OpenParen) {
         stack.push(Frame::Paren)?;
         Ok(Step::Continue(State::ExpectOperand))
-    } else if is_minus(token) {
+    } else if token.is(Symbol::Minus) {
         if stack.min_precedence() > 7 {
             return Ok(Step::Reject);
         }
@@ -199,26 +211,28 @@ fn on_operand_start(alloc: Global, token: TokenValue<'_>, stack: &mut Stack) -> 
     }
 }
 
-/// Behind the parenthesis of a call: `)`.
+/// `)` after the open parenthesis of a call.
 fn on_empty_call(stack: &mut Stack) -> Step
-    ensures { outcome_of result stack.new ≡ reading.on_empty_call stack.old }
+    ensures { outcome_of result stack.new ≡ parser.on_empty_call stack.old }
 {
     match stack.pop() {
-        Some(Frame::Call(name, values)) => Step::Continue(State::AfterOperand(Expr::Call(name, values))),
+        Some(Frame::Call(name, values)) => Step::Continue(State::AfterOperand(Expr::Call(
+            name, values,
+        ))),
         Some(Frame::Paren) => Step::Reject,
         Some(Frame::Operator(_)) => Step::Reject,
         None => Step::Reject,
     }
 }
 
-/// Behind a word that is a constant, or nothing, where it stands alone.
-fn on_constant_word(
+/// After a word that is a literal, or refused.
+fn on_lone_word(
     alloc: Global,
     stack: &mut Stack,
     word: &str,
     next: Option<TokenValue<'_>>,
 ) -> Result<Step, NoMemory>
-    ensures { IfOk result (λ step. outcome_of step stack.new ≡ reading.on_constant_word (reading.constant_word word.now) stack.old (option_map terminal_of next.entry)) }
+    ensures { Steps result stack.new (parser.on_lone_word word.now stack.old (terminal_at next.entry)) }
 {
     match constant_word(word) {
         Some(x) => after_operand(alloc, stack, x, next),
@@ -226,9 +240,9 @@ fn on_constant_word(
     }
 }
 
-/// Behind the word `not`, where no `.` follows.
+/// A token other than `.` after the word `not`.
 fn on_not(alloc: Global, stack: &mut Stack, token: TokenValue<'_>) -> Result<Step, NoMemory>
-    ensures { IfOk result (λ step. outcome_of step stack.new ≡ reading.on_not stack.old (Some (terminal_of token.entry))) }
+    ensures { Steps result stack.new (parser.on_not stack.old (next_terminal token.entry)) }
 {
     if stack.min_precedence() > 3 {
         return Ok(Step::Reject);
@@ -237,46 +251,46 @@ fn on_not(alloc: Global, stack: &mut Stack, token: TokenValue<'_>) -> Result<Ste
     on_operand_start(alloc, token, stack)
 }
 
-/// Behind a word: a token.
+/// A token after a word.
 fn after_word(
     alloc: Global,
     stack: &mut Stack,
     word: Text,
     token: TokenValue<'_>,
 ) -> Result<Step, NoMemory>
-    ensures { IfOk result (λ step. outcome_of step stack.new ≡ reading.after_word word stack.old (Some (terminal_of token.entry))) }
+    ensures { Steps result stack.new (parser.after_word word stack.old (next_terminal token.entry)) }
 {
-    if is_dot(token) {
+    if token.is(Symbol::Dot) {
         Ok(Step::Continue(State::AfterDot(word)))
     } else if is_not(word.as_str()) {
         on_not(alloc, stack, token)
-    } else if is_open(token) {
+    } else if token.is(Symbol::OpenParen) {
         stack.push(Frame::Call(word, Items::new(alloc)))?;
         Ok(Step::Continue(State::AfterCallParen))
     } else {
-        on_constant_word(alloc, stack, word.as_str(), Some(token))
+        on_lone_word(alloc, stack, word.as_str(), Some(token))
     }
 }
 
-/// Behind a word: the end.
+/// The end after a word.
 fn after_last_word(alloc: Global, stack: &mut Stack, word: &str) -> Result<Step, NoMemory>
-    ensures { IfOk result (λ step. outcome_of step stack.new ≡ reading.after_word word.now stack.old None) }
+    ensures { Steps result stack.new (parser.after_word word.now stack.old None) }
 {
     if is_not(word) {
         Ok(Step::Reject)
     } else {
-        on_constant_word(alloc, stack, word, None)
+        on_lone_word(alloc, stack, word, None)
     }
 }
 
-/// Behind a word and a dot.
+/// A token after a word and a dot.
 fn after_dot(
     alloc: Global,
     side: Text,
     token: TokenValue<'_>,
     stack: &mut Stack,
 ) -> Result<Step, NoMemory>
-    ensures { IfOk result (λ step. outcome_of step stack.new ≡ reading.after_dot side stack.old (terminal_of token.entry)) }
+    ensures { Steps result stack.new (parser.after_dot side stack.old (terminal_of token.entry)) }
 {
     match token {
         TokenValue::Word(word) => Ok(Step::Continue(State::AfterOperand(Expr::Column(
@@ -297,12 +311,12 @@ pub(crate) fn transition(
     state: State,
     token: TokenValue<'_>,
 ) -> Result<Step, NoMemory>
-    ensures { IfOk result (λ step. outcome_of step stack.new ≡ reading.transition state stack.old (Some (terminal_of token.entry))) }
+    ensures { Steps result stack.new (parser.transition state stack.old (next_terminal token.entry)) }
 {
     match state {
         State::ExpectOperand => on_operand_start(alloc, token, stack),
         State::AfterCallParen => {
-            if is_close(token) {
+            if token.is(Symbol::CloseParen) {
                 Ok(on_empty_call(stack))
             } else {
                 on_operand_start(alloc, token, stack)
@@ -316,8 +330,12 @@ pub(crate) fn transition(
 
 /// The end of the tokens.
 #[tactic(auto, unfolding(crate::specs::PrecedenceParser::transition))]
-pub(crate) fn transition_at_end(alloc: Global, stack: &mut Stack, state: State) -> Result<Step, NoMemory>
-    ensures { IfOk result (λ step. outcome_of step stack.new ≡ reading.transition state stack.old None) }
+pub(crate) fn transition_at_end(
+    alloc: Global,
+    stack: &mut Stack,
+    state: State,
+) -> Result<Step, NoMemory>
+    ensures { Steps result stack.new (parser.transition state stack.old None) }
 {
     match state {
         State::ExpectOperand => Ok(Step::Reject),

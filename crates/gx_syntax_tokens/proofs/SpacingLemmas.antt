@@ -6,11 +6,11 @@ use Rattle.std.proofs.Common.{◌≡◌, ℕ, suc, ◌<◌, ◌+◌, ◌^◌, Bo
 use Rattle.std.proofs.lemmas.Bool.Decides.{nat_tests}
 use Rattle.std.proofs.lemmas.List.{append-nil}
 use Rattle.std.proofs.lemmas.Fmt.{digits_decimal, decimal_nonempty}
-use Rattle.gx_syntax_tokens.specs.Terminals.{Terminal, word, number, quoted, symbol, TokenStream, eof}
+use Rattle.gx_syntax_tokens.specs.Terminals.{Terminal, word, number, quoted, symbol, TokenStream, eof, is_symbol-true}
 use Rattle.gx_syntax_tokens.specs.Symbols.{spelling}
 use Rattle.gx_syntax_tokens.specs.Lexing.{before, no_more, trivia_at, is_space, is_word_byte, tokens_of, tokens_from, bom_len}
 use Rattle.gx_syntax_tokens.specs.Validity.{IsWord, IsValid}
-use Rattle.gx_syntax_tokens.specs.SpacedText.{Piece, token, sign, function, terminal, escapes, text_of, follows, is_open, leads, spaced_on, spaced_text, lines_text, terminals_of_lines, terminals, AreValid, AreValidLines, SpacedTextRoundTrips, LinesRoundTrip}
+use Rattle.gx_syntax_tokens.specs.SpacedText.{Piece, token, sign, function, terminal, escapes, text_of, follows, leads, spaced_on, spaced_text, lines_text, terminals_of_lines, terminals, AreValid, AreValidLines, SpacedTextRoundTrips, LinesRoundTrip}
 use Rattle.gx_syntax_tokens.specs.declared.symbol.Symbol.{Symbol}
 use Rattle.gx_syntax_tokens.specs.declared.symbol.Symbol.TheVariants as symbols
 use Rattle.gx_syntax_tokens.proofs.TokenLemmas.{Stops, goes_on, reads_one, own, first_of, and_false}
@@ -35,16 +35,12 @@ follows_stops t (symbol symbols.Dot) rest h = byte_stops t 46 rest refl refl ref
 follows_stops t (symbol symbols.Colon) rest h = byte_stops t 58 rest refl refl refl
 follows_stops t _ rest h = cc
 
-open_stops : (name : List ℕ) (u : Terminal) (rest : List ℕ) → is_open u ≡ true → Stops (goes_on (word name)) (text_of u ++ rest)
-open_stops name (symbol symbols.OpenParen) rest h = refl
-open_stops name _ rest h = cc
-
 leads_stops : (p : Piece) (u : Terminal) (rest : List ℕ) → leads p u ≡ true → Stops (goes_on (terminal p)) (text_of u ++ rest)
 leads_stops (token (symbol symbols.OpenParen)) u rest h = none_stops _ _ (λ c. and_false (c == 61))
 leads_stops (token (symbol symbols.Dot)) u rest h = none_stops _ _ (λ c. and_false (c == 61))
 leads_stops (token _) u rest h = cc
 leads_stops sign u rest h = none_stops _ _ (λ c. and_false (c == 61))
-leads_stops (function name) u rest h = open_stops name u rest h
+leads_stops (function name) u rest h = rw (is_symbol-true symbols.OpenParen u h) refl
 
 close_stops : (p : Piece) (u : Terminal) (rest : List ℕ) → (follows u || leads p u) ≡ true → Stops (goes_on (terminal p)) (text_of u ++ rest)
 close_stops p u rest h = go (follows u) (leads p u) refl refl h

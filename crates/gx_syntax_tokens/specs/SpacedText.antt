@@ -1,6 +1,6 @@
 -- The text of tokens: one space between two, but where one stands close to the other.
 use Rattle.std.specs.Prelude.{◌≡◌, ℕ, Bool, true, false, not, ◌==◌, ◌||◌, if◌then◌else◌, List, [], ◌∷◌, ◌++◌, length, map, codes, decimal, refl}
-use Rattle.gx_syntax_tokens.specs.Terminals.{Terminal, word, number, quoted, symbol, TokenStream, eof}
+use Rattle.gx_syntax_tokens.specs.Terminals.{Terminal, word, number, quoted, symbol, TokenStream, eof, is_symbol}
 use Rattle.gx_syntax_tokens.specs.Symbols.{spelling}
 use Rattle.gx_syntax_tokens.specs.Lexing.{tokens_of}
 use Rattle.gx_syntax_tokens.specs.Validity.{IsValid}
@@ -53,17 +53,13 @@ follows (symbol symbols.Dot) = true
 follows (symbol symbols.Colon) = true
 follows _ = false
 
-abbrev pub is_open : Terminal → Bool
-is_open (symbol symbols.OpenParen) = true
-is_open _ = false
-
 -- a token to which the next one stands close: `(`, `.`, a sign, and a function's name before its `(`
 abbrev pub leads : Piece → Terminal → Bool
 leads (token (symbol symbols.OpenParen)) u = true
 leads (token (symbol symbols.Dot)) u = true
 leads (token _) u = false
 leads sign u = true
-leads (function name) u = is_open u
+leads (function name) u = is_symbol symbols.OpenParen u
 
 -- what stands between a token and the next one
 abbrev pub between : Piece → Terminal → List ℕ

@@ -1,5 +1,6 @@
 -- Symbols: how they are written, and which one a text begins with.
-use Rattle.std.specs.Prelude.{ℕ, ◌==◌, if◌then◌else◌, List, [], ◌∷◌, Option, None, Some}
+use Rattle.std.specs.Prelude.{◌≡◌, refl, ℕ, ◌==◌, if◌then◌else◌, List, [], ◌∷◌, Option, None, Some}
+use Rattle.std.proofs.Common.{ap, ◌∙◌, sym}
 use Rattle.gx_syntax_tokens.specs.declared.symbol.Symbol.{Symbol}
 use Rattle.gx_syntax_tokens.specs.declared.symbol.Symbol.TheVariants as symbols
 
@@ -66,3 +67,14 @@ longest (Some double) single = Some double
 abbrev pub symbol_at : List ℕ → Option Symbol
 symbol_at [] = None
 symbol_at (c ∷ rest) = longest (paired c rest) (alone c)
+
+-- the bytes of a symbol begin with that symbol
+pub symbol_at-spelling : (s : Symbol) → symbol_at (spelling s) ≡ Some s
+symbol_at-spelling symbols.OpenParen = refl
+symbol_at-spelling _ = refl
+
+-- so symbols of the same spelling are the same
+pub spelling-injective : (s t : Symbol) → spelling s ≡ spelling t → s ≡ t
+spelling-injective s t same =
+    let both : Some s ≡ Some t = sym (symbol_at-spelling s) ∙ ap symbol_at same ∙ symbol_at-spelling t in
+    cc

@@ -1,7 +1,7 @@
 -- Lines of tokens that are written piece by piece.
 use Rattle.std.specs.Prelude.{◌≡◌, ℕ, ◌||◌, if◌then◌else◌, List, [], ◌∷◌, ◌++◌, codes, refl}
-use Rattle.gx_syntax_tokens.specs.SpacedText.{Piece, token, sign, function, terminal, text_of, follows, is_open, spaced_text}
-use Rattle.gx_syntax_tokens.specs.Terminals.{Terminal, word, symbol}
+use Rattle.gx_syntax_tokens.specs.SpacedText.{Piece, token, sign, function, terminal, text_of, follows, spaced_text}
+use Rattle.gx_syntax_tokens.specs.Terminals.{Terminal, word, symbol, is_symbol}
 use Rattle.gx_syntax_tokens.specs.declared.symbol.Symbol.TheVariants as symbols
 use Rattle.gx_syntax_tokens.specs.declared.writer.Spacing.{Spacing}
 use Rattle.gx_syntax_tokens.specs.declared.writer.Spacing.TheVariants as spacings
@@ -23,7 +23,7 @@ spacing_after (function name) = spacings.BeforeCall
 abbrev pub separator : Spacing → Terminal → List ℕ
 separator spacings.LineStart u = []
 separator spacings.Tight u = []
-separator spacings.BeforeCall u = if follows u || is_open u then [] else 32 ∷ []
+separator spacings.BeforeCall u = if follows u || is_symbol symbols.OpenParen u then [] else 32 ∷ []
 separator spacings.Spaced u = if follows u then [] else 32 ∷ []
 
 -- one piece more on the line

@@ -10,10 +10,12 @@ ghost use Rattle.gx_syntax_tokens.specs.Symbols.{symbol_at};
 ghost use Rattle.gx_syntax_tokens.specs.TokenTexts.{Finds, IsEdged, IsNext};
 
 use crate::SyntaxKind;
-use crate::token_value::{LexEnd, TokenValue, PlacedToken};
 use crate::quoted::quoted_len;
-use crate::scan::{MOST_NUMBER, MOST_TEXT_BYTES, MOST_WORD_BYTES, digits_len, skip_trivia, word_len};
+use crate::scan::{
+    MOST_NUMBER, MOST_TEXT_BYTES, MOST_WORD_BYTES, digits_len, skip_trivia, word_len,
+};
 use crate::symbol::symbol_of;
+use crate::token_value::{LexEnd, PlacedToken, TokenValue};
 
 /// A token with the slice of the text that it is.
 #[derive(Clone, Copy)]

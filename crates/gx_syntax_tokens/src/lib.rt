@@ -6,23 +6,23 @@
 //! again. The crate stands on `gx_rows`; the grammar and the printer of scripts stand on it.
 #![tactic(auto)]
 
-mod unescaping;
-mod laws;
-mod token_value;
 mod escaping;
-mod quoted;
+mod laws;
 mod lexer;
+mod quoted;
 mod scan;
 mod symbol;
 mod syntax_kind;
 mod token;
+mod token_value;
 mod tokens;
+mod unescaping;
 mod writer;
 
-pub use laws::{spaced_text_round_trips, lexed_tokens_are_valid, written_tokens_are_spaced};
-pub use token_value::{LexEnd, TokenValue, PlacedToken, lex, unescape};
+pub use laws::{lexed_tokens_are_valid, spaced_text_round_trips, written_tokens_are_spaced};
 pub use symbol::Symbol;
 pub use syntax_kind::SyntaxKind;
 pub use token::{Token, TokenKind};
+pub use token_value::{LexEnd, PlacedToken, TokenValue, lex, unescape};
 pub use tokens::Tokens;
 pub use writer::{Spacing, Writer};

@@ -4,12 +4,13 @@ ghost use Rattle.std.specs.Prelude.{◌≡◌, ◌<◌, ◌^◌, All, IfOk, leng
 ghost use Rattle.gx_syntax_tokens.specs.Lexing.{tokens_of};
 ghost use Rattle.gx_syntax_tokens.specs.Validity.{IsValid};
 ghost use Rattle.gx_syntax_tokens.specs.Quotes.{unescaped};
+ghost use Rattle.gx_syntax_tokens.specs.Terminals.{is_symbol};
 ghost use Rattle.gx_syntax_tokens.specs.TokenTexts.{kind_of, token_stream_of, terminal_of};
 
-use crate::unescaping::{plain_len, value_of};
 use crate::lexer::{NextToken, next_at};
 use crate::scan::bom_len;
 use crate::symbol::Symbol;
+use crate::unescaping::{plain_len, value_of};
 use crate::{SyntaxKind, TokenKind};
 use gx_rows::{NoMemory, Text};
 use std::alloc::Global;
@@ -37,6 +38,16 @@ impl TokenValue<'_> {
             TokenValue::Number(_) => TokenKind::Number,
             TokenValue::Quoted(_) => TokenKind::Quoted,
             TokenValue::Symbol(_) => TokenKind::Symbol,
+        }
+    }
+
+    /// Whether the token is this symbol.
+    pub fn is(self, symbol: Symbol) -> bool
+        ensures { result ≡ is_symbol symbol (terminal_of self.entry) }
+    {
+        match self {
+            TokenValue::Symbol(found) => found == symbol,
+            _ => false,
         }
     }
 }

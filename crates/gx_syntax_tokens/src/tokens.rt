@@ -8,9 +8,9 @@ ghost use Rattle.std.specs.Prelude.{◌≡◌, ◌<◌, ◌^◌, length};
 ghost use Rattle.gx_syntax_tokens.specs.Lexing.{tokens_of};
 ghost use Rattle.gx_syntax_tokens.specs.Taking.{Takes};
 
-use crate::token_value::LexEnd;
 use crate::lexer::{NextToken, next_at};
 use crate::scan::bom_len;
+use crate::token_value::LexEnd;
 use crate::{SyntaxKind, Token};
 use std::marker::Model;
 

@@ -53,7 +53,8 @@ fn symbol_separator(last: Spacing, symbol: Symbol) -> &'static str
 {
     match (last, symbol) {
         (Spacing::LineStart | Spacing::Tight, _) => "",
-        (_, Symbol::Comma | Symbol::Semicolon | Symbol::CloseParen | Symbol::Dot | Symbol::Colon) => "",
+        (_, Symbol::Comma | Symbol::Semicolon | Symbol::CloseParen | Symbol::Dot | Symbol::Colon) =>
+            "",
         (Spacing::BeforeCall, Symbol::OpenParen) => "",
         _ => " ",
     }
@@ -161,7 +162,8 @@ impl Writer {
     pub fn sign(&mut self) -> Result<(), NoMemory>
         ensures { OnOk result (self.new ≡ with_piece self.old pieces.sign) }
     {
-        self.out.push_str(symbol_separator(self.last, Symbol::Minus))?;
+        self.out
+            .push_str(symbol_separator(self.last, Symbol::Minus))?;
         self.out.push_str("-")?;
         self.last = Spacing::Tight;
         Ok(())

@@ -1,6 +1,7 @@
 -- The abstract syntax of statements: each is a keyword with the values of its parts, in text order.
 --
--- To add a statement: its variant of `Stmt`, its keyword, its form, its line in `stmt_of` and its line in `view_of`.
+-- To add a statement, add its variant of `Stmt`, its keyword, and its lines in `form_of`, `stmt_of`
+-- and `view_of`.
 use Rattle.std.specs.Prelude.{◌≡◌, ℕ, ℤ, Bool, Option, List, codes, refl}
 use Rattle.gx_syntax_tree.specs.declared.constant.ColumnConst.{ColumnConst}
 use Rattle.gx_syntax_tree.specs.declared.constant.Const.{Const}
@@ -71,14 +72,14 @@ form_of keywords.Edges = part a_name (say (codes "from") (part a_text (part colu
 form_of keywords.EdgeList = part a_name (say (codes "from") (part a_text (part oriented fin)))
 form_of keywords.Graph = part a_name (mark equals (part a_name (mark comma (part a_name (say (codes "default") (part consts fin))))))
 form_of keywords.FromEdges = part a_name (mark equals (part a_name (part named fin)))
+form_of keywords.Reverse = part a_name (mark equals (part a_name fin))
+form_of keywords.Mask = part a_name (mark equals (part a_name (say (codes "by") (part a_name fin))))
+form_of keywords.Subgraph = part a_name (mark equals (part a_name (part subgraph_filter fin)))
+form_of keywords.GroupEdges = part a_name (mark equals (part a_name (part merges fin)))
+form_of keywords.Partition = part a_name (mark equals (part a_name (say (codes "by") (part a_cut fin))))
 form_of keywords.MapVertices = part a_name (mark equals (part a_name (part sets fin)))
 form_of keywords.MapEdges = part a_name (mark equals (part a_name (part sets fin)))
 form_of keywords.MapTriplets = part a_name (mark equals (part a_name (part sets fin)))
-form_of keywords.Subgraph = part a_name (mark equals (part a_name (part subgraph_filter fin)))
-form_of keywords.Mask = part a_name (mark equals (part a_name (say (codes "by") (part a_name fin))))
-form_of keywords.Reverse = part a_name (mark equals (part a_name fin))
-form_of keywords.GroupEdges = part a_name (mark equals (part a_name (part merges fin)))
-form_of keywords.Partition = part a_name (mark equals (part a_name (say (codes "by") (part a_cut fin))))
 form_of keywords.JoinVertices = part a_name (mark equals (part a_name (mark comma (part a_name (part sets fin)))))
 form_of keywords.OuterJoin = part a_name (mark equals (part a_name (mark comma (part a_name (say (codes "default") (part consts (part sets fin)))))))
 form_of keywords.Aggregate = part a_name (mark equals (part a_name (part sends (say (codes "merge") (part merges fin)))))
@@ -114,14 +115,14 @@ stmt_of keywords.Edges v = stmts.Edges v.0 v.1.0 v.1.1.0
 stmt_of keywords.EdgeList v = stmts.EdgeList v.0 v.1.0 v.1.1.0
 stmt_of keywords.Graph v = stmts.Graph v.0 v.1.0 v.1.1.0 v.1.1.1.0
 stmt_of keywords.FromEdges v = stmts.FromEdges v.0 v.1.0 v.1.1.0
+stmt_of keywords.Reverse v = stmts.Reverse v.0 v.1.0
+stmt_of keywords.Mask v = stmts.Mask v.0 v.1.0 v.1.1.0
+stmt_of keywords.Subgraph v = stmts.Subgraph v.0 v.1.0 v.1.1.0.vertices v.1.1.0.edges
+stmt_of keywords.GroupEdges v = stmts.GroupEdges v.0 v.1.0 v.1.1.0
+stmt_of keywords.Partition v = stmts.Partition v.0 v.1.0 v.1.1.0
 stmt_of keywords.MapVertices v = stmts.MapVertices v.0 v.1.0 v.1.1.0
 stmt_of keywords.MapEdges v = stmts.MapEdges v.0 v.1.0 v.1.1.0
 stmt_of keywords.MapTriplets v = stmts.MapTriplets v.0 v.1.0 v.1.1.0
-stmt_of keywords.Subgraph v = stmts.Subgraph v.0 v.1.0 v.1.1.0.vertices v.1.1.0.edges
-stmt_of keywords.Mask v = stmts.Mask v.0 v.1.0 v.1.1.0
-stmt_of keywords.Reverse v = stmts.Reverse v.0 v.1.0
-stmt_of keywords.GroupEdges v = stmts.GroupEdges v.0 v.1.0 v.1.1.0
-stmt_of keywords.Partition v = stmts.Partition v.0 v.1.0 v.1.1.0
 stmt_of keywords.JoinVertices v = stmts.JoinVertices v.0 v.1.0 v.1.1.0 v.1.1.1.0
 stmt_of keywords.OuterJoin v = stmts.OuterJoin v.0 v.1.0 v.1.1.0 v.1.1.1.0 v.1.1.1.1.0
 stmt_of keywords.Aggregate v = stmts.Aggregate v.0 v.1.0 v.1.1.0 v.1.1.1.0
@@ -139,7 +140,6 @@ stmt_of keywords.LeftJoin v = stmts.LeftJoin v.0 v.1.0 v.1.1.0 v.1.1.1.0 v.1.1.1
 stmt_of keywords.Print v = print_of v.0 v.1.0
 stmt_of keywords.Count v = count_of v.0 v.1.0
 
-
 -- a statement as its keyword and the values of its parts
 pub record StmtView : Type 0 where
   pub keyword : StmtKeyword
@@ -151,14 +151,14 @@ view_of (stmts.Edges name file cs) = record { keyword = keywords.Edges; values =
 view_of (stmts.EdgeList name file o) = record { keyword = keywords.EdgeList; values = (name, (file, (o, tt))) }
 view_of (stmts.Graph name vs es default) = record { keyword = keywords.Graph; values = (name, (vs, (es, (default, tt)))) }
 view_of (stmts.FromEdges name es row) = record { keyword = keywords.FromEdges; values = (name, (es, (row, tt))) }
+view_of (stmts.Reverse name g) = record { keyword = keywords.Reverse; values = (name, (g, tt)) }
+view_of (stmts.Mask name g by) = record { keyword = keywords.Mask; values = (name, (g, (by, tt))) }
+view_of (stmts.Subgraph name g vs es) = record { keyword = keywords.Subgraph; values = (name, (g, (record { vertices = vs; edges = es }, tt))) }
+view_of (stmts.GroupEdges name g ms) = record { keyword = keywords.GroupEdges; values = (name, (g, (ms, tt))) }
+view_of (stmts.Partition name g cut) = record { keyword = keywords.Partition; values = (name, (g, (cut, tt))) }
 view_of (stmts.MapVertices name g ss) = record { keyword = keywords.MapVertices; values = (name, (g, (ss, tt))) }
 view_of (stmts.MapEdges name g ss) = record { keyword = keywords.MapEdges; values = (name, (g, (ss, tt))) }
 view_of (stmts.MapTriplets name g ss) = record { keyword = keywords.MapTriplets; values = (name, (g, (ss, tt))) }
-view_of (stmts.Subgraph name g vs es) = record { keyword = keywords.Subgraph; values = (name, (g, (record { vertices = vs; edges = es }, tt))) }
-view_of (stmts.Mask name g by) = record { keyword = keywords.Mask; values = (name, (g, (by, tt))) }
-view_of (stmts.Reverse name g) = record { keyword = keywords.Reverse; values = (name, (g, tt)) }
-view_of (stmts.GroupEdges name g ms) = record { keyword = keywords.GroupEdges; values = (name, (g, (ms, tt))) }
-view_of (stmts.Partition name g cut) = record { keyword = keywords.Partition; values = (name, (g, (cut, tt))) }
 view_of (stmts.JoinVertices name g t ss) = record { keyword = keywords.JoinVertices; values = (name, (g, (t, (ss, tt)))) }
 view_of (stmts.OuterJoin name g t default ss) = record { keyword = keywords.OuterJoin; values = (name, (g, (t, (default, (ss, tt))))) }
 view_of (stmts.Aggregate name g ss ms) = record { keyword = keywords.Aggregate; values = (name, (g, (ss, (ms, tt)))) }
@@ -181,10 +181,10 @@ view_of (stmts.CountVertices g) = record { keyword = keywords.Count; values = (c
 view_of (stmts.CountEdges g) = record { keyword = keywords.Count; values = (counts.Edges, (g, tt)) }
 view_of (stmts.CountTable t) = record { keyword = keywords.Count; values = (counts.Table, (t, tt)) }
 
--- each statement is made of what is seen of it
+-- each statement is made of the keyword and the values of its view
 abbrev pub IsMadeOfItsView : Type 0
 IsMadeOfItsView = (s : Stmt) → stmt_of (view_of s).keyword (view_of s).values ≡ s
 
--- and nothing else is seen of a statement than what it is made of
+-- the view of a statement is the keyword and the values that it is made of
 abbrev pub ViewsWhatItIsMadeOf : Type 0
 ViewsWhatItIsMadeOf = (k : StmtKeyword) (v : Values (form_of k)) → view_of (stmt_of k v) ≡ record { keyword = k; values = v }

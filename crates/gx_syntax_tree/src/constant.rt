@@ -1,8 +1,9 @@
-//! Constants.
+//! Constants, as they are written in default rows and in rows of `fromedges`. Unlike expressions
+//! they have a sign of their own, and need no names.
 
 use gx_rows::Text;
 
-/// A constant of a list of constants.
+/// A constant.
 #[derive(Drop)]
 pub enum Const {
     /// A number with its sign.
@@ -11,15 +12,15 @@ pub enum Const {
     Quoted(Text),
     /// `true` or `false`.
     Truth(bool),
-    /// `ids()`: the list without an identifier.
+    /// `ids()`: the empty list of identifiers.
     NoIds,
 }
 
-/// A column's name and a constant.
+/// A column with the same constant in each row.
 #[derive(Drop)]
 pub struct ColumnConst {
     /// The column's name.
     pub name: Text,
-    /// Its value in each row.
+    /// The constant.
     pub value: Const,
 }

@@ -1,4 +1,7 @@
-//! Expressions: the syntax tree of what computes a value, with names as they are written.
+//! Expressions, with names as they are written, and the precedence of their operators. Parentheses
+//! are not in the tree: where they are needed follows from the precedences. A new operator is a
+//! variant here with its precedences, their lines in specs/Precedence.antt, and its token in
+//! `gx_syntax_exprs`.
 
 ghost use Rattle.std.specs.Prelude.{◌≡◌};
 ghost use Rattle.gx_syntax_tree.specs.Precedence as precedence;
@@ -6,7 +9,7 @@ ghost use Rattle.gx_syntax_tree.specs.Precedence as precedence;
 use gx_rows::Text;
 use sqlite_items::{Boxed, Items};
 
-/// An operator before its operand.
+/// A prefix operator.
 #[derive(Clone, Copy, Debug, PartialEq, Eq)]
 pub enum UnaryOp {
     /// `not`
@@ -37,7 +40,7 @@ impl UnaryOp {
     }
 }
 
-/// An operator between its operands.
+/// An infix operator.
 #[derive(Clone, Copy, Debug, PartialEq, Eq)]
 pub enum BinaryOp {
     /// `or`
@@ -133,10 +136,10 @@ impl BinaryOp {
     }
 }
 
-/// An expression, with names as they are written.
+/// An expression.
 #[derive(Drop)]
 pub enum Expr {
-    /// A number from 0 on: a sign before it is an operator.
+    /// A number that is not negative: a sign before it is an operator.
     Number(i64),
     /// A text.
     Quoted(Text),
@@ -148,8 +151,8 @@ pub enum Expr {
     Column(Text, Text),
     /// A function and its arguments.
     Call(Text, Items<Expr>),
-    /// An operator before its operand.
+    /// A prefix operator and its operand.
     Unary(UnaryOp, Boxed<Expr>),
-    /// An operator between its operands.
+    /// An infix operator with its left and right operands.
     Binary(BinaryOp, Boxed<Expr>, Boxed<Expr>),
 }

@@ -1,6 +1,7 @@
-//! The keywords of statements, and what `print` and `count` act on.
+//! The words that statements begin with, and the words after `print` and `count`, in the order of
+//! the families of `Stmt`. Their spellings are known to the parser and the printer alone.
 
-/// What a statement is, by the word that it begins with.
+/// The word that a statement begins with.
 #[derive(Clone, Copy)]
 pub enum StmtKeyword {
     /// `vertices`
@@ -13,22 +14,22 @@ pub enum StmtKeyword {
     Graph,
     /// `fromedges`
     FromEdges,
+    /// `reverse`
+    Reverse,
+    /// `mask`
+    Mask,
+    /// `subgraph`
+    Subgraph,
+    /// `groupedges`
+    GroupEdges,
+    /// `partition`
+    Partition,
     /// `mapvertices`
     MapVertices,
     /// `mapedges`
     MapEdges,
     /// `maptriplets`
     MapTriplets,
-    /// `subgraph`
-    Subgraph,
-    /// `mask`
-    Mask,
-    /// `reverse`
-    Reverse,
-    /// `groupedges`
-    GroupEdges,
-    /// `partition`
-    Partition,
     /// `joinvertices`
     JoinVertices,
     /// `outerjoin`

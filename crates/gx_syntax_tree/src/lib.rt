@@ -1,8 +1,8 @@
 //! The syntax tree of scripts: statements, their parts, and expressions.
 //!
-//! A script is a list of statements, and each statement is a variant of `Stmt` with the parts of its
-//! spelling in text order. Parentheses, quotes and escapes are gone, and so are optional parts that
-//! only repeat a default. The crate depends on `gx_rows` for texts and kinds, and on the kit's
+//! A script is a list of statements, and each statement is a variant of `Stmt` with the parts of
+//! its spelling in text order. Parentheses, quotes and escapes are gone, and so are optional parts
+//! that only repeat a default. The crate depends on `gx_rows` for texts and kinds, and on the kit's
 //! `sqlite_items`, through which a tree may hold trees. It never sees a token: parsers, the printer
 //! and the type checker depend on it, and it depends on none of them.
 #![tactic(auto)]

@@ -1,11 +1,11 @@
-//! Entries of lists, and send clauses.
+//! Items of lists in statements, clauses that send messages, and the tests of a subgraph.
 
 use crate::expr::Expr;
 use crate::words::{MergeWord, SideWord};
 use gx_rows::{Text, ValueKind};
 use sqlite_items::Items;
 
-/// A column that is read from a file.
+/// A column that is loaded from a file.
 #[derive(Drop)]
 pub struct ColumnDecl {
     /// The column's name.
@@ -19,11 +19,11 @@ pub struct ColumnDecl {
 pub struct ColumnExpr {
     /// The column's name.
     pub name: Text,
-    /// What its value is computed by.
+    /// The expression for its values.
     pub value: Expr,
 }
 
-/// A column that is merged.
+/// A column whose values are merged.
 #[derive(Drop)]
 pub struct ColumnMerge {
     /// The column's name.
@@ -39,11 +39,11 @@ pub struct SendClause {
     pub to: SideWord,
     /// The values of the message, one for each merged column.
     pub values: Items<Expr>,
-    /// Where it is sent: everywhere, if this is left out.
+    /// The test of the edges that send it: all edges, if there is none.
     pub when: Option<Expr>,
 }
 
-/// The tests of a subgraph, at least one of which is written.
+/// The tests of a subgraph, of which at least one is given.
 #[derive(Drop)]
 pub struct SubgraphFilter {
     /// The test of vertices.

@@ -1,4 +1,4 @@
-//! Scripts.
+//! Scripts, the roots of the tree.
 
 use crate::stmt::Stmt;
 use sqlite_items::Items;

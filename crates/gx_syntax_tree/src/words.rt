@@ -1,4 +1,5 @@
-//! Words of which one is chosen.
+//! Words that choose: cuts, merges, ends of edges, and directions. `gx_syntax_stmts` knows their
+//! spellings.
 
 /// How edges are placed in partitions.
 #[derive(Clone, Copy, Debug, PartialEq, Eq)]
