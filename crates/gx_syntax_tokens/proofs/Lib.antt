@@ -1,10 +1,10 @@
-pub mod EscapeLemmas
-pub mod LexingLemmas
-pub mod ValidityLemmas
+pub mod RunLemmas
 pub mod QuoteLemmas
-pub mod ReaderLemmas
-pub mod SpacingLemmas
 pub mod SymbolLemmas
-pub mod TakenLemmas
+pub mod LexingLemmas
+pub mod ScanLemmas
+pub mod NextTokenLemmas
+pub mod ValidityLemmas
 pub mod TokenLemmas
+pub mod SpacingLemmas
 pub mod WritingLemmas

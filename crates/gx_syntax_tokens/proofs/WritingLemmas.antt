@@ -1,7 +1,7 @@
--- Pieces that are written one by one stand as they are spaced.
+-- Pieces that are written one by one give their spaced text.
 use Rattle.std.proofs.Common.{◌≡◌, ℕ, Bool, true, false, ◌||◌, if◌then◌else◌, List, [], ◌∷◌, ◌++◌, refl, sym, ◌∙◌, append_assoc}
 use Rattle.std.proofs.lemmas.List.{append-nil}
-use Rattle.gx_syntax_tokens.specs.SpacedText.{Piece, token, sign, function, terminal, text_of, between, spaced_on, follows}
+use Rattle.gx_syntax_tokens.specs.SpacedText.{Piece, token, sign, function, terminal, token_text, space_between, spaced_after, attaches_left}
 use Rattle.gx_syntax_tokens.specs.Terminals.{Terminal, word, number, quoted, symbol}
 use Rattle.gx_syntax_tokens.specs.Writing.{spacing_after, separator, with_pieces, WritesSpacedText}
 use Rattle.gx_syntax_tokens.specs.declared.symbol.Symbol.{Symbol}
@@ -10,34 +10,34 @@ use Rattle.gx_syntax_tokens.specs.declared.symbol.Symbol.TheVariants as symbols
 abbrev space : Bool → List ℕ
 space b = if b then [] else 32 ∷ []
 
-close_to : (b : Bool) → [] ≡ space (b || true)
-close_to true = refl
-close_to false = refl
+tight : (b : Bool) → [] ≡ space (b || true)
+tight true = refl
+tight false = refl
 
-apart_from : (b : Bool) → space b ≡ space (b || false)
-apart_from true = refl
-apart_from false = refl
+apart : (b : Bool) → space b ≡ space (b || false)
+apart true = refl
+apart false = refl
 
-behind_symbol : (s : Symbol) (u : Terminal) → separator (spacing_after (token (symbol s))) u ≡ between (token (symbol s)) u
-behind_symbol symbols.OpenParen u = close_to (follows u)
-behind_symbol symbols.Dot u = close_to (follows u)
-behind_symbol _ u = apart_from (follows u)
+separator-after_symbol : (s : Symbol) (u : Terminal) → separator (spacing_after (token (symbol s))) u ≡ space_between (token (symbol s)) u
+separator-after_symbol symbols.OpenParen u = tight (attaches_left u)
+separator-after_symbol symbols.Dot u = tight (attaches_left u)
+separator-after_symbol _ u = apart (attaches_left u)
 
--- what stands between two tokens
-behind : (p : Piece) (u : Terminal) → separator (spacing_after p) u ≡ between p u
-behind (token (word w)) u = apart_from (follows u)
-behind (token (number n)) u = apart_from (follows u)
-behind (token (quoted s)) u = apart_from (follows u)
-behind (token (symbol s)) u = behind_symbol s u
-behind sign u = close_to (follows u)
-behind (function name) u = refl
+-- the space between two tokens
+separator-after : (p : Piece) (u : Terminal) → separator (spacing_after p) u ≡ space_between p u
+separator-after (token (word w)) u = apart (attaches_left u)
+separator-after (token (number n)) u = apart (attaches_left u)
+separator-after (token (quoted s)) u = apart (attaches_left u)
+separator-after (token (symbol s)) u = separator-after_symbol s u
+separator-after sign u = tight (attaches_left u)
+separator-after (function name) u = refl
 
-onward : (text : List ℕ) (p : Piece) (ps : List Piece) → (with_pieces (record { text = text; last = spacing_after p }) ps).text ≡ text ++ spaced_on p ps
-onward text p [] = sym (append-nil text)
-onward text p (q ∷ qs) =
-    onward (text ++ (separator (spacing_after p) (terminal q) ++ text_of (terminal q))) q qs
-    ∙ rw (behind p (terminal q)) (simp append_assoc)
+with_pieces-after : (text : List ℕ) (p : Piece) (ps : List Piece) → (with_pieces (record { text = text; last = spacing_after p }) ps).text ≡ text ++ spaced_after p ps
+with_pieces-after text p [] = sym (append-nil text)
+with_pieces-after text p (q ∷ qs) =
+    with_pieces-after (text ++ (separator (spacing_after p) (terminal q) ++ token_text (terminal q))) q qs
+    ∙ rw (separator-after p (terminal q)) (simp append_assoc)
 
 pub spaces_pieces : WritesSpacedText
 spaces_pieces text [] = sym (append-nil text)
-spaces_pieces text (p ∷ ps) = onward (text ++ text_of (terminal p)) p ps ∙ append_assoc text (text_of (terminal p)) (spaced_on p ps)
+spaces_pieces text (p ∷ ps) = with_pieces-after (text ++ token_text (terminal p)) p ps ∙ append_assoc text (token_text (terminal p)) (spaced_after p ps)

@@ -1,4 +1,4 @@
--- Symbols: how they are written, and which one a text begins with.
+-- Symbols: how they are written, and the symbol that a text begins with.
 use Rattle.std.specs.Prelude.{◌≡◌, refl, ℕ, ◌==◌, if◌then◌else◌, List, [], ◌∷◌, Option, None, Some}
 use Rattle.std.proofs.Common.{ap, ◌∙◌, sym}
 use Rattle.gx_syntax_tokens.specs.declared.symbol.Symbol.{Symbol}
@@ -25,9 +25,9 @@ spelling symbols.Star = 42 ∷ []
 spelling symbols.Slash = 47 ∷ []
 spelling symbols.Percent = 37 ∷ []
 
--- the symbol that a byte is by itself
-abbrev pub alone : ℕ → Option Symbol
-alone c =
+-- the symbol that is this byte alone
+abbrev pub one_byte_symbol : ℕ → Option Symbol
+one_byte_symbol c =
     if c == 40 then Some symbols.OpenParen
     else if c == 41 then Some symbols.CloseParen
     else if c == 44 then Some symbols.Comma
@@ -44,36 +44,36 @@ alone c =
     else if c == 37 then Some symbols.Percent
     else None
 
--- the symbol that a byte is with `=` behind it
-abbrev pub with_equals : ℕ → Option Symbol
-with_equals c =
+-- the symbol that is this byte and `=`
+abbrev pub symbol_with_equals : ℕ → Option Symbol
+symbol_with_equals c =
     if c == 61 then Some symbols.Equal
     else if c == 33 then Some symbols.NotEqual
     else if c == 60 then Some symbols.LessEqual
     else if c == 62 then Some symbols.GreaterEqual
     else None
 
--- the symbol of two bytes that a byte begins
-abbrev pub paired : ℕ → List ℕ → Option Symbol
-paired c [] = None
-paired c (d ∷ rest) = if d == 61 then with_equals c else None
+-- the symbol that is this byte and the next one
+abbrev pub two_byte_symbol : ℕ → List ℕ → Option Symbol
+two_byte_symbol c [] = None
+two_byte_symbol c (d ∷ rest) = if d == 61 then symbol_with_equals c else None
 
--- the longer of two symbols, where there is one
-abbrev pub longest : Option Symbol → Option Symbol → Option Symbol
-longest None single = single
-longest (Some double) single = Some double
+-- the symbol of two bytes, or else the symbol of one
+abbrev pub longest_symbol : Option Symbol → Option Symbol → Option Symbol
+longest_symbol None single = single
+longest_symbol (Some double) single = Some double
 
 -- the symbol that a text begins with: the longest that fits
 abbrev pub symbol_at : List ℕ → Option Symbol
 symbol_at [] = None
-symbol_at (c ∷ rest) = longest (paired c rest) (alone c)
+symbol_at (c ∷ rest) = longest_symbol (two_byte_symbol c rest) (one_byte_symbol c)
 
 -- the bytes of a symbol begin with that symbol
 pub symbol_at-spelling : (s : Symbol) → symbol_at (spelling s) ≡ Some s
 symbol_at-spelling symbols.OpenParen = refl
 symbol_at-spelling _ = refl
 
--- so symbols of the same spelling are the same
+-- symbols of the same spelling are the same
 pub spelling-injective : (s t : Symbol) → spelling s ≡ spelling t → s ≡ t
 spelling-injective s t same =
     let both : Some s ≡ Some t = sym (symbol_at-spelling s) ∙ ap symbol_at same ∙ symbol_at-spelling t in

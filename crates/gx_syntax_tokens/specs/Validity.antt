@@ -5,13 +5,13 @@ use Rattle.gx_syntax_tokens.specs.Limits.{most_word_bytes, most_text_bytes, most
 use Rattle.gx_syntax_tokens.specs.Lexing.{is_word_byte}
 use Rattle.gx_syntax_tokens.specs.Terminals.{Terminal, word, number, quoted, symbol}
 
--- a letter, and then letters, digits and `_`, of which there are not too many
+-- a letter, and then letters, digits and `_`, within the limit
 pub record IsWord (text : List ℕ) : Type 0 where
-  pub begins : is_ascii_alphabetic (slice_index text 0) ≡ true
-  pub bytes : All (λ c. is_word_byte c ≡ true) text
-  pub few : length text ≤ most_word_bytes
+  pub begins_with_letter : is_ascii_alphabetic (slice_index text 0) ≡ true
+  pub word_bytes : All (λ c. is_word_byte c ≡ true) text
+  pub within_limit : length text ≤ most_word_bytes
 
--- a word is one, a number is not too large, and a quoted text is not too long
+-- a word of the language, or a number or a quoted text within its limit, or any symbol
 abbrev pub IsValid : Terminal → Type 0
 IsValid (word text) = IsWord text
 IsValid (number n) = n ≤ most_number

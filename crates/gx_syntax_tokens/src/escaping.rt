@@ -1,8 +1,14 @@
-//! Quoted texts to text.
+//! Writes the value of a quoted text between quotation marks, with escapes.
+//!
+//! It sees bytes alone: neither tokens nor the spaces between them. A new escape is added here, in
+//! `unescaping.rt`, and in `escaped_byte`, `is_escape` and `escape_value` of `specs/`.
+#![tactic(auto, using(crate::specs::Writing::begins_equal, crate::specs::Writing::begins_append))]
 
 ghost use Rattle.std.specs.Prelude.{◌≡◌, ◌++◌, ◌∷◌, [], OnOk, string_bytes, drop, take_while, false};
 ghost use Rattle.std.specs.List.{prefix_len};
-ghost use Rattle.gx_syntax_tokens.specs.SpacedText.{escape, escapes, is_plain};
+ghost use Rattle.gx_syntax_tokens.specs.Scanning.{is_unescaped_byte};
+ghost use Rattle.gx_syntax_tokens.specs.SpacedText.{escaped_byte, escaped_text};
+ghost use Rattle.gx_syntax_tokens.specs.Writing.{Extends};
 
 use gx_rows::NoMemory;
 
@@ -10,9 +16,11 @@ use gx_rows::NoMemory;
 ///
 /// # Errors
 ///
-/// `NoMemory` where there is no room for the text.
+/// `NoMemory` if there is no room for it.
 pub(crate) fn put_quoted(out: &mut String, value: &str) -> Result<(), NoMemory>
-    ensures { OnOk result (string_bytes out.new ≡ string_bytes out.old ++ 34 ∷ escapes value.now ++ 34 ∷ []) }
+    ensures written { OnOk result
+        (string_bytes out.new ≡ string_bytes out.old ++ 34 ∷ escaped_text value.now ++ 34 ∷ []) }
+    ensures extends { Extends (string_bytes out.old) (string_bytes out.new) }
 {
     out.push_str("\"")?;
     put_escaped(out, value)?;
@@ -22,7 +30,7 @@ pub(crate) fn put_quoted(out: &mut String, value: &str) -> Result<(), NoMemory>
 
 // The bytes before the first byte that is escaped.
 fn plain_len(value: &[u8]) -> usize
-    ensures { result ≡ prefix_len is_plain value.now }
+    ensures { result ≡ prefix_len is_unescaped_byte value.now }
 {
     value
         .iter()
@@ -30,18 +38,18 @@ fn plain_len(value: &[u8]) -> usize
         .count()
 }
 
-// The value before the first byte that is escaped, and from there on.
+// The value before the first byte that is escaped, and the rest.
 fn split_plain(value: &str) -> (&str, &str)
-    ensures plain { result.0.now ≡ take_while is_plain value.now }
-    ensures rest { result.1.now ≡ drop (prefix_len is_plain value.now) value.now }
+    ensures plain { result.0.now ≡ take_while is_unescaped_byte value.now }
+    ensures rest { result.1.now ≡ drop (prefix_len is_unescaped_byte value.now) value.now }
 {
     value.split_at(plain_len(value.as_bytes()))
 }
 
-// A byte that is escaped, as it is written.
+// The escape of a byte.
 fn escape_of(byte: u8) -> &'static str
-    requires { is_plain byte ≡ false }
-    ensures { result.now ≡ escape byte }
+    requires { is_unescaped_byte byte ≡ false }
+    ensures { result.now ≡ escaped_byte byte }
 {
     match byte {
         b'"' => "\\\"",
@@ -54,10 +62,12 @@ fn escape_of(byte: u8) -> &'static str
 
 // Adds a value, escaped.
 fn put_escaped(out: &mut String, value: &str) -> Result<(), NoMemory>
-    ensures { OnOk result (string_bytes out.new ≡ string_bytes out.old ++ escapes value.now) }
+    ensures written { OnOk result
+        (string_bytes out.new ≡ string_bytes out.old ++ escaped_text value.now) }
+    ensures extends { Extends (string_bytes out.old) (string_bytes out.new) }
 {
     let mut rest = value;
-    loop {
+    'runs: loop {
         let (plain, special) = split_plain(rest);
         out.push_str(plain)?;
         let [first, ..] = special.as_bytes() else {

@@ -1,20 +1,20 @@
-//! What holds of the tokens of a text that is written by the rule of spaces.
+//! Laws of tokens, as contracts of empty functions. A crate above that needs one calls it.
 
 ghost use Rattle.gx_syntax_tokens.specs.SpacedText.{SpacedTextRoundTrips, LinesRoundTrip, LexesValidTokens};
 ghost use Rattle.gx_syntax_tokens.specs.Writing.{WritesSpacedText};
 
-/// The tokens of a spaced text are those that it was made of, and it ends whole.
+/// The text of tokens lexes to these tokens and to its end; so does the text of lines.
 pub fn spaced_text_round_trips()
     ensures tokens { SpacedTextRoundTrips }
     ensures lines { LinesRoundTrip }
 {}
 
-/// Tokens that are written one by one stand as they are spaced.
+/// Tokens that a `Writer` writes one by one give their spaced text.
 pub fn written_tokens_are_spaced()
     ensures { WritesSpacedText }
 {}
 
-/// Each token of a text is one that a text may have.
+/// The tokens of any text are within the limits.
 pub fn lexed_tokens_are_valid()
     ensures { LexesValidTokens }
 {}

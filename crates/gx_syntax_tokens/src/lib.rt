@@ -1,9 +1,9 @@
 //! The tokens of the script language: how a text falls into them, and how they are written with
 //! spaces between them.
 //!
-//! `Tokens` takes the tokens of a text one by one and takes no memory; `lex` lists them for the
-//! parser. What is written by the rule of spaces in `specs/Spacing.antt` falls into the same tokens
-//! again. The crate stands on `gx_rows`; the grammar and the printer of scripts stand on it.
+//! `Tokens` takes no memory and gives the tokens of a text one by one; `lex` lists them for the
+//! parser. `Writer` writes tokens, and what it writes lexes to the same tokens again. The crate
+//! depends on `gx_rows`; the parsers and the printer of scripts depend on it. It never sees a tree.
 #![tactic(auto)]
 
 mod escaping;

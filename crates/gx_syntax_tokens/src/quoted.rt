@@ -1,69 +1,51 @@
-//! Quoted texts, byte by byte.
+//! Measures a quoted text: where it closes, and how many bytes its value has.
+//!
+//! It takes no memory. `unescaping.rt` gives the value itself.
 
-ghost use Rattle.std.specs.Prelude.{◌≡◌, false};
-ghost use Rattle.gx_syntax_tokens.specs.Quotes.{extent_of, quote_at, quoted_from};
+ghost use Rattle.std.specs.Prelude.{◌≡◌, false, length};
+ghost use Rattle.gx_syntax_tokens.specs.Quotes.{closing_quote, unescaped_from};
 
-/// What a byte is inside a quoted text.
-#[derive(Clone, Copy)]
-pub(crate) enum Quote {
-    /// The quotation mark at the end.
-    Closes,
-    /// The backslash before an escape.
-    Escapes,
-    /// It stands for this byte of the value.
-    Stands(u8),
-    /// It may not stand here.
-    Refused,
-}
+use crate::unescaping::is_escape;
 
-/// How much stands between the quotation marks of a text.
-#[derive(Clone, Copy)]
-pub(crate) struct Extent {
-    /// Its bytes.
-    pub(crate) len: usize,
-    /// The bytes of its value.
-    pub(crate) value_len: usize,
-}
-
-/// What a byte is, behind the backslash of an escape or not.
-pub(crate) fn quote_at(escape: bool, byte: u8) -> Quote
-    ensures { result ≡ quote_at escape byte }
-{
-    if escape {
-        match byte {
-            b'"' | b'\\' => Quote::Stands(byte),
-            b'n' => Quote::Stands(b'\n'),
-            b't' => Quote::Stands(b'\t'),
-            b'r' => Quote::Stands(b'\r'),
-            _ => Quote::Refused,
-        }
-    } else {
-        match byte {
-            b'"' => Quote::Closes,
-            b'\\' => Quote::Escapes,
-            b'\n' | b'\r' => Quote::Refused,
-            _ => Quote::Stands(byte),
-        }
-    }
-}
-
-/// How much stands before the quotation mark that closes a text. `None` where the text is not
-/// closed, or has a byte before that which may not stand there.
-pub(crate) fn quoted_len(inside: &[u8]) -> Option<Extent>
-    ensures { result ≡ extent_of (quoted_from false inside.now) }
+/// The bytes before the quotation mark that closes a text. `None` if the text is not closed, or has
+/// a line break or a wrong escape before it.
+pub(crate) fn quoted_len(after: &[u8]) -> Option<usize>
+    ensures { result ≡ closing_quote false after.now }
 {
     let mut escape = false;
-    let mut value_len = 0;
-    for (i, byte) in inside.iter().enumerate() {
-        match quote_at(escape, *byte) {
-            Quote::Closes => return Some(Extent { len: i, value_len }),
-            Quote::Escapes => escape = true,
-            Quote::Stands(_) => {
-                escape = false;
-                value_len += 1;
+    for (i, byte) in after.iter().enumerate() {
+        if escape {
+            if !is_escape(*byte) {
+                return None;
             }
-            Quote::Refused => return None,
+            escape = false;
+        } else {
+            match *byte {
+                b'"' => return Some(i),
+                b'\n' | b'\r' => return None,
+                other => escape = other == b'\\',
+            }
         }
     }
     None
+}
+
+/// The number of bytes of the value of a text, from the bytes between its quotation marks.
+#[tactic(auto, using(crate::proofs::QuoteLemmas::value_len_steps))]
+pub(crate) fn value_len(raw: &[u8]) -> usize
+    ensures { result ≡ length (unescaped_from false raw.now) }
+{
+    let mut escape = false;
+    let mut len = 0;
+    for byte in raw.iter() {
+        if escape {
+            escape = false;
+            len += 1;
+        } else if *byte == b'\\' {
+            escape = true;
+        } else {
+            len += 1;
+        }
+    }
+    len
 }

@@ -1,9 +1,13 @@
-//! Runs of bytes at the front of a text: gaps between tokens, words and numbers.
+//! Runs of bytes at the front of a text: trivia, words and digits.
+//!
+//! It sees bytes, never tokens. A limit is changed here and in `specs/Limits.antt`, where it is a
+//! number of its own, so that a change of the constant alone is refused. A new byte of words or of
+//! white space is changed here and in `specs/Lexing.antt`.
 
 ghost use Rattle.std.specs.Prelude.{◌≡◌, ◌≤◌, ◌<◌, None, length, drop};
 ghost use Rattle.std.specs.Char.{is_ascii_digit};
 ghost use Rattle.std.specs.List.{prefix_len};
-ghost use Rattle.gx_syntax_tokens.specs.Lexing.{trivia_at, is_comment_byte, is_space, is_word_byte, tokens_at, bom_len};
+ghost use Rattle.gx_syntax_tokens.specs.Lexing.{trivia_len, is_comment_byte, is_space, is_word_byte, tokens_at, bom_len};
 
 /// The most bytes of a word.
 pub(crate) const MOST_WORD_BYTES: usize = 64;
@@ -47,10 +51,10 @@ fn comment_len(text: &[u8]) -> usize
     text.iter().take_while(|byte| **byte != b'\n').count()
 }
 
-// The bytes of the gap at the front: one of white space, or a comment.
-#[tactic(auto, unfolding(crate::specs::Lexing::trivia_at))]
+// The bytes of the trivia at the front: one of white space, or a comment.
+#[tactic(auto, unfolding(crate::specs::Lexing::trivia_len))]
 fn trivia_len(text: &[u8]) -> Option<usize>
-    ensures { result ≡ trivia_at text.now }
+    ensures { result ≡ trivia_len text.now }
 {
     match text {
         [first, ..] if is_space(*first) => Some(1),
@@ -59,13 +63,13 @@ fn trivia_len(text: &[u8]) -> Option<usize>
     }
 }
 
-/// The place behind the white space and the comments at a place.
+/// The offset after the white space and the comments from an offset on.
 pub(crate) fn skip_trivia(text: &[u8], from: usize) -> usize
     requires { from ≤ length text.now }
-    ensures left { tokens_at text.now result ≡ tokens_at text.now from }
-    ensures ordered { from ≤ result }
+    ensures tokens_kept { tokens_at text.now result ≡ tokens_at text.now from }
+    ensures in_order { from ≤ result }
     ensures within { result ≤ length text.now }
-    ensures token { trivia_at (drop result text.now) ≡ None }
+    ensures skipped { trivia_len (drop result text.now) ≡ None }
 {
     let mut at = from;
     while let Some(len) = trivia_len(text.split_at(at).1) {

@@ -1,7 +1,11 @@
-//! Symbols.
+//! Symbols: how each is written, and the longest one at the front of a text.
+//!
+//! A new symbol of one byte goes into `Symbol`, `spelling` and `one_byte_symbol` here, and into the
+//! same words of `specs/Symbols.antt`. If another symbol is its first byte, `two_byte_symbol` must
+//! find it.
 
 ghost use Rattle.std.specs.Prelude.{◌≡◌, length};
-ghost use Rattle.gx_syntax_tokens.specs.Symbols.{alone, paired, spelling, symbol_at, with_equals};
+ghost use Rattle.gx_syntax_tokens.specs.Symbols.{one_byte_symbol, spelling, symbol_at, symbol_with_equals, two_byte_symbol};
 
 /// A symbol of the script language.
 #[derive(Clone, Copy, Debug, PartialEq, Eq)]
@@ -45,7 +49,7 @@ pub enum Symbol {
 }
 
 impl Symbol {
-    /// The symbol as it is written.
+    /// The text of the symbol.
     pub(crate) fn spelling(self) -> &'static str
         ensures { result.now ≡ spelling self }
     {
@@ -79,9 +83,9 @@ impl Symbol {
     }
 }
 
-// The symbol that a byte is by itself.
-fn alone(byte: u8) -> Option<Symbol>
-    ensures { result ≡ alone byte }
+// The symbol that is this byte alone.
+fn one_byte_symbol(byte: u8) -> Option<Symbol>
+    ensures { result ≡ one_byte_symbol byte }
 {
     let symbol = match byte {
         b'(' => Symbol::OpenParen,
@@ -103,9 +107,9 @@ fn alone(byte: u8) -> Option<Symbol>
     Some(symbol)
 }
 
-// The symbol that a byte is with `=` behind it.
-fn with_equals(byte: u8) -> Option<Symbol>
-    ensures { result ≡ with_equals byte }
+// The symbol that is this byte and `=`.
+fn symbol_with_equals(byte: u8) -> Option<Symbol>
+    ensures { result ≡ symbol_with_equals byte }
 {
     match byte {
         b'=' => Some(Symbol::Equal),
@@ -116,12 +120,12 @@ fn with_equals(byte: u8) -> Option<Symbol>
     }
 }
 
-// The symbol of two bytes that a byte begins.
-fn paired(first: u8, rest: &[u8]) -> Option<Symbol>
-    ensures { result ≡ paired first rest.now }
+// The symbol that is this byte and the next one.
+fn two_byte_symbol(first: u8, rest: &[u8]) -> Option<Symbol>
+    ensures { result ≡ two_byte_symbol first rest.now }
 {
     match rest {
-        [b'=', ..] => with_equals(first),
+        [b'=', ..] => symbol_with_equals(first),
         _ => None,
     }
 }
@@ -133,8 +137,8 @@ pub(crate) fn symbol_of(text: &[u8]) -> Option<Symbol>
     let [first, rest @ ..] = text else {
         return None;
     };
-    match paired(*first, rest) {
+    match two_byte_symbol(*first, rest) {
         Some(symbol) => Some(symbol),
-        None => alone(*first),
+        None => one_byte_symbol(*first),
     }
 }

@@ -1,6 +1,7 @@
-//! Why a place of a script is refused.
+//! Why a script is refused: one variant for each cause. The lexer gives all but `Unexpected`, which
+//! is the parsers' only one.
 
-/// Why a place of a script is refused.
+/// Why a script is refused at an offset.
 #[derive(Clone, Copy, Debug, PartialEq, Eq)]
 pub enum SyntaxKind {
     /// A byte that begins no token.
@@ -13,6 +14,6 @@ pub enum SyntaxKind {
     NameLong,
     /// A number of more than 9223372036854775807.
     NumberLarge,
-    /// No script goes on with this token, or none ends here.
+    /// No script continues with this token, or none ends here.
     Unexpected,
 }

@@ -1,13 +1,14 @@
-//! Tokens as a user of the crate sees them.
+//! Tokens as a user of the crate sees them: a kind and a slice of the script. Their values are for
+//! the parser alone (`token_value.rt`).
 
-/// What a token is.
+/// The kind of a token.
 #[derive(Clone, Copy, Debug, PartialEq, Eq)]
 pub enum TokenKind {
     /// A letter, and then letters, digits and `_`.
     Word,
     /// Digits.
     Number,
-    /// A text between quotation marks.
+    /// Text between quotation marks.
     Quoted,
     /// One or two bytes of punctuation.
     Symbol,
@@ -20,6 +21,6 @@ pub struct Token<'a> {
     pub text: &'a str,
     /// Where the token starts, in bytes from the start of the script.
     pub start: u32,
-    /// What it is.
+    /// Its kind.
     pub kind: TokenKind,
 }

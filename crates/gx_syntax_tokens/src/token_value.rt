@@ -1,11 +1,13 @@
-//! Tokens as the parser takes them.
+//! Tokens as the parser takes them: words, values of numbers, quoted texts, and symbols, each with
+//! its offset; and the list of a text's tokens. The parser never sees bytes.
 
 ghost use Rattle.std.specs.Prelude.{◌≡◌, ◌<◌, ◌^◌, All, IfOk, length};
 ghost use Rattle.gx_syntax_tokens.specs.Lexing.{tokens_of};
 ghost use Rattle.gx_syntax_tokens.specs.Validity.{IsValid};
-ghost use Rattle.gx_syntax_tokens.specs.Quotes.{unescaped};
+ghost use Rattle.gx_syntax_tokens.specs.Quotes.{unescaped_text};
 ghost use Rattle.gx_syntax_tokens.specs.Terminals.{is_symbol};
-ghost use Rattle.gx_syntax_tokens.specs.TokenTexts.{kind_of, token_stream_of, terminal_of};
+ghost use Rattle.gx_syntax_tokens.specs.Scanning.{token_kind_of};
+ghost use Rattle.gx_syntax_tokens.specs.TokenTexts.{token_stream_of, terminal_of};
 
 use crate::lexer::{NextToken, next_at};
 use crate::scan::bom_len;
@@ -15,23 +17,23 @@ use crate::{SyntaxKind, TokenKind};
 use gx_rows::{NoMemory, Text};
 use std::alloc::Global;
 
-/// A token without its place. A number is at most 9223372036854775807.
+/// A token without its offset. A number is at most 9223372036854775807.
 #[derive(Clone, Copy)]
 pub enum TokenValue<'a> {
     /// A word.
     Word(&'a str),
     /// A number.
     Number(u64),
-    /// A quoted text, between its quotes and with its escapes.
+    /// The text between quotation marks, with its escapes: `unescape` gives its value.
     Quoted(&'a str),
     /// A symbol.
     Symbol(Symbol),
 }
 
 impl TokenValue<'_> {
-    /// What the token is.
+    /// The kind of the token.
     pub(crate) fn kind(self) -> TokenKind
-        ensures { result ≡ kind_of self.entry }
+        ensures { result ≡ token_kind_of self.entry }
     {
         match self {
             TokenValue::Word(_) => TokenKind::Word,
@@ -52,7 +54,7 @@ impl TokenValue<'_> {
     }
 }
 
-/// A token with its place, in bytes from the start of the text.
+/// A token with its offset, in bytes from the start of the text.
 #[derive(Clone, Copy)]
 pub struct PlacedToken<'a> {
     /// Where the token starts.
@@ -66,19 +68,19 @@ pub struct PlacedToken<'a> {
 pub enum LexEnd {
     /// The text ends here, in bytes from its start.
     Eof(u32),
-    /// No token stands at this place, for this reason.
+    /// No token begins at this offset, for this reason.
     Error(u32, SyntaxKind),
 }
 
-/// The tokens of a text, each with its place, and how they end.
+/// The tokens of a text, each with its offset, and how they end.
 ///
 /// # Errors
 ///
-/// `NoMemory` where there is no room for the list.
+/// `NoMemory` if there is no room for the list.
 pub fn lex<'a>(alloc: Global, text: &'a str) -> Result<(Vec<PlacedToken<'a>>, LexEnd), NoMemory>
     requires { length text.now < 2 ^ 32 }
-    ensures whole { IfOk result (λ r. token_stream_of r.0.items r.1 ≡ tokens_of text.now) }
-    ensures proper { IfOk result (λ r. All (λ p. IsValid (terminal_of p.value)) r.0.items) }
+    ensures tokens { IfOk result (λ r. token_stream_of r.0.items r.1 ≡ tokens_of text.now) }
+    ensures valid { IfOk result (λ r. All (λ p. IsValid (terminal_of p.value)) r.0.items) }
 {
     let mut tokens = Vec::new(alloc);
     let mut at = bom_len(text.as_bytes());
@@ -93,14 +95,15 @@ pub fn lex<'a>(alloc: Global, text: &'a str) -> Result<(Vec<PlacedToken<'a>>, Le
     }
 }
 
-/// The value of what stands between the quotation marks of a text, as `Lexeme::Quoted` has it.
+/// The value of the text between quotation marks, which `TokenValue::Quoted` has. A backslash that
+/// begins no escape is dropped; the tokens of a text have none.
 ///
 /// # Errors
 ///
-/// `NoMemory` where there is no room for the value.
-#[tactic(auto, unfolding(crate::specs::Quotes::unescaped))]
+/// `NoMemory` if there is no room for the value.
+#[tactic(auto, unfolding(crate::specs::Quotes::unescaped_text))]
 pub fn unescape(alloc: Global, raw: &str) -> Result<Text, NoMemory>
-    ensures { IfOk result (λ value. value ≡ unescaped raw.now) }
+    ensures { IfOk result (λ value. value ≡ unescaped_text raw.now) }
 {
     if plain_len(raw.as_bytes()) == raw.len() {
         return Text::of(alloc, raw);
@@ -118,6 +121,8 @@ mod tests {
     fn lists_the_tokens(rt: HostRuntime) -> Result<(), Fail> {
         let (tokens, end) = lex(rt.alloc(), "f = g ;")?;
         assert_eq!(rt; tokens.len(), 4);
+        assert!(rt; tokens[1].value.is(Symbol::Assign));
+        assert!(rt; !tokens[3].value.is(Symbol::Comma));
         assert!(rt; matches!(end, LexEnd::Eof(7)));
         Ok(())
     }

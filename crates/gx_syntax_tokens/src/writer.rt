@@ -1,13 +1,17 @@
-//! Lines of tokens, written with spaces between them.
+//! Writes lines of tokens with spaces between them, so that the text lexes to the same tokens.
 //!
-//! `Writer` is the counterpart of `Tokens`: it is given tokens in order and writes them by the rule of
-//! spaces, so that they are read back as they were given.
+//! `Writer` gets tokens in order and sees no tree: whether a `-` is a sign, and a word the name of
+//! a function, its caller says. A new symbol needs a rule here only if no space comes before it or
+//! after it: then change `symbol_separator` or `symbol`, and `attaches_left` or `attaches_right`
+//! and `spacing_after` of `specs/`. A new escape goes into `escaping.rt`. There are no limits here:
+//! what a text may have is the caller's part.
+#![tactic(auto, using(crate::specs::Writing::begins_equal, crate::specs::Writing::begins_append))]
 
 ghost use Rattle.std.specs.Prelude.{◌≡◌, [], IfOk, OnOk};
 ghost use Rattle.gx_syntax_tokens.specs.SpacedText as pieces;
 ghost use Rattle.gx_syntax_tokens.specs.Symbols.{spelling};
 ghost use Rattle.gx_syntax_tokens.specs.Terminals as terminals;
-ghost use Rattle.gx_syntax_tokens.specs.Writing.{separator, with_line_end, with_piece};
+ghost use Rattle.gx_syntax_tokens.specs.Writing.{Extends, separator, with_line_end, with_piece};
 ghost use Rattle.gx_syntax_tokens.specs.declared.writer.Spacing.TheVariants as spacings;
 ghost use Rattle.gx_syntax_tokens.specs.declared.symbol.Symbol.TheVariants as symbols;
 
@@ -15,25 +19,26 @@ use crate::Symbol;
 use crate::escaping::put_quoted;
 use gx_rows::{NoMemory, Text};
 use std::alloc::Global;
-use std::fmt::Write;
 use std::marker::Model;
 
 /// How the next token joins the last one of a line.
 #[derive(Clone, Copy)]
 pub enum Spacing {
-    /// There is none yet.
+    /// There is no last token.
     LineStart,
-    /// The next token stands close to it.
+    /// No space comes between.
     Tight,
-    /// A `(` stands close to it, and what stands close to each token.
+    /// No space comes before a `(`, nor before what `Spaced` attaches.
     BeforeCall,
-    /// Only what stands close to each token does: `,` `;` `)` `.` and `:`.
+    /// No space comes before `,` `;` `)` `.` and `:`; one comes before any other token.
     Spaced,
 }
 
-/// A text of lines of tokens.
+/// The text of lines of tokens. Contracts see it as the text so far and how the next token joins
+/// it.
 #[derive(Drop)]
 pub struct Writer {
+    alloc: Global,
     out: String,
     last: Spacing,
 }
@@ -47,7 +52,7 @@ impl Model for Writer {
     ghost view = { λ w. record { text = string_bytes w.out; last = w.last } };
 }
 
-// What stands before a symbol.
+// The space before a symbol.
 fn symbol_separator(last: Spacing, symbol: Symbol) -> &'static str
     ensures { result.now ≡ separator last (terminals.symbol symbol) }
 {
@@ -60,7 +65,7 @@ fn symbol_separator(last: Spacing, symbol: Symbol) -> &'static str
     }
 }
 
-// What stands before a token that is no symbol.
+// The space before a token that is not a symbol.
 fn word_separator(last: Spacing) -> &'static str
     ensures { result.now ≡ separator last (terminals.word []) }
 {
@@ -71,11 +76,12 @@ fn word_separator(last: Spacing) -> &'static str
 }
 
 impl Writer {
-    /// A text without a line.
+    /// A text of no lines.
     pub fn new(alloc: Global) -> Writer
         ensures { result ≡ record { text = []; last = spacings.LineStart } }
     {
         Writer {
+            alloc,
             out: String::new(alloc),
             last: Spacing::LineStart,
         }
@@ -85,9 +91,12 @@ impl Writer {
     ///
     /// # Errors
     ///
-    /// `NoMemory` where there is no room for it; so of the other tokens.
+    /// `NoMemory` if there is no room for it. A part of it may be written then; so it is with each
+    /// call below.
     pub fn word(&mut self, word: &str) -> Result<(), NoMemory>
-        ensures { OnOk result (self.new ≡ with_piece self.old (pieces.token (terminals.word word.now))) }
+        ensures written { OnOk result
+            (self.new ≡ with_piece self.old (pieces.token (terminals.word word.now))) }
+        ensures extends { Extends self.old.text self.new.text }
     {
         self.out.push_str(word_separator(self.last))?;
         self.out.push_str(word)?;
@@ -101,7 +110,8 @@ impl Writer {
     ///
     /// `NoMemory`.
     pub fn function(&mut self, name: &str) -> Result<(), NoMemory>
-        ensures { OnOk result (self.new ≡ with_piece self.old (pieces.function name.now)) }
+        ensures written { OnOk result (self.new ≡ with_piece self.old (pieces.function name.now)) }
+        ensures extends { Extends self.old.text self.new.text }
     {
         self.out.push_str(word_separator(self.last))?;
         self.out.push_str(name)?;
@@ -115,10 +125,13 @@ impl Writer {
     ///
     /// `NoMemory`.
     pub fn number(&mut self, number: u64) -> Result<(), NoMemory>
-        ensures { OnOk result (self.new ≡ with_piece self.old (pieces.token (terminals.number number))) }
+        ensures written { OnOk result
+            (self.new ≡ with_piece self.old (pieces.token (terminals.number number))) }
+        ensures extends { Extends self.old.text self.new.text }
     {
         self.out.push_str(word_separator(self.last))?;
-        write!(self.out, "{}", number).map_err(|_| NoMemory)?;
+        let digits = format!(in self.alloc; "{}", number)?;
+        self.out.push_str(digits.as_str())?;
         self.last = Spacing::Spaced;
         Ok(())
     }
@@ -129,7 +142,9 @@ impl Writer {
     ///
     /// `NoMemory`.
     pub fn quoted(&mut self, value: &str) -> Result<(), NoMemory>
-        ensures { OnOk result (self.new ≡ with_piece self.old (pieces.token (terminals.quoted value.now))) }
+        ensures written { OnOk result
+            (self.new ≡ with_piece self.old (pieces.token (terminals.quoted value.now))) }
+        ensures extends { Extends self.old.text self.new.text }
     {
         self.out.push_str(word_separator(self.last))?;
         put_quoted(&mut self.out, value)?;
@@ -137,13 +152,15 @@ impl Writer {
         Ok(())
     }
 
-    /// Writes a symbol, if it is no sign before a number or an operand.
+    /// Writes a symbol that is not a sign before a number or an operand.
     ///
     /// # Errors
     ///
     /// `NoMemory`.
     pub fn symbol(&mut self, symbol: Symbol) -> Result<(), NoMemory>
-        ensures { OnOk result (self.new ≡ with_piece self.old (pieces.token (terminals.symbol symbol))) }
+        ensures written { OnOk result
+            (self.new ≡ with_piece self.old (pieces.token (terminals.symbol symbol))) }
+        ensures extends { Extends self.old.text self.new.text }
     {
         self.out.push_str(symbol_separator(self.last, symbol))?;
         self.out.push_str(symbol.spelling())?;
@@ -160,7 +177,8 @@ impl Writer {
     ///
     /// `NoMemory`.
     pub fn sign(&mut self) -> Result<(), NoMemory>
-        ensures { OnOk result (self.new ≡ with_piece self.old pieces.sign) }
+        ensures written { OnOk result (self.new ≡ with_piece self.old pieces.sign) }
+        ensures extends { Extends self.old.text self.new.text }
     {
         self.out
             .push_str(symbol_separator(self.last, Symbol::Minus))?;
@@ -175,7 +193,8 @@ impl Writer {
     ///
     /// `NoMemory`.
     pub fn end_line(&mut self) -> Result<(), NoMemory>
-        ensures { OnOk result (self.new ≡ with_line_end self.old) }
+        ensures written { OnOk result (self.new ≡ with_line_end self.old) }
+        ensures extends { Extends self.old.text self.new.text }
     {
         self.out.push_str("\n")?;
         self.last = Spacing::LineStart;
@@ -186,10 +205,35 @@ impl Writer {
     ///
     /// # Errors
     ///
-    /// `NoMemory` where there is no room for it.
-    pub fn text(&self, alloc: Global) -> Result<Text, NoMemory>
-        ensures { IfOk result (λ text. text ≡ self.now.text) }
+    /// `NoMemory` if there is no room for it.
+    pub fn into_text(self) -> Result<Text, NoMemory>
+        ensures { IfOk result (λ text. text ≡ self.text) }
     {
-        Text::of(alloc, self.out.as_str())
+        Text::of(self.alloc, self.out.as_str())
+    }
+}
+
+#[cfg(test)]
+mod tests {
+    use super::*;
+    use std::test::Fail;
+
+    #[test]
+    fn writes_lines(rt: HostRuntime) -> Result<(), Fail> {
+        let mut out = Writer::new(rt.alloc());
+        out.word("x")?;
+        out.symbol(Symbol::Assign)?;
+        out.function("f")?;
+        out.symbol(Symbol::OpenParen)?;
+        out.sign()?;
+        out.number(70)?;
+        out.symbol(Symbol::Comma)?;
+        out.quoted("é\"\n")?;
+        out.symbol(Symbol::CloseParen)?;
+        out.end_line()?;
+        out.word("y")?;
+        let text = out.into_text()?;
+        assert_eq!(rt; text.as_str(), "x = f(-70, \"é\\\"\\n\")\ny");
+        Ok(())
     }
 }

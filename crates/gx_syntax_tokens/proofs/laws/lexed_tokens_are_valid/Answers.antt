@@ -1,5 +1,5 @@
-use Rattle.gx_syntax_tokens.proofs.ValidityLemmas.{reads_proper}
+use Rattle.gx_syntax_tokens.proofs.ValidityLemmas.{lexes_valid_tokens}
 use Rattle.gx_syntax_tokens.proofs.laws.lexed_tokens_are_valid.Goals as goal
 
 pub returns : goal.returns
-returns c = reads_proper
+returns c = lexes_valid_tokens

@@ -1,8 +1,8 @@
-use Rattle.gx_syntax_tokens.proofs.SpacingLemmas.{reads_back, reads_lines_back}
+use Rattle.gx_syntax_tokens.proofs.SpacingLemmas.{spaced_text-round_trips, lines_text-round_trips}
 use Rattle.gx_syntax_tokens.proofs.laws.spaced_text_round_trips.Goals as goal
 
 pub returns-clause-tokens : goal.returns-clause-tokens
-returns-clause-tokens c = reads_back
+returns-clause-tokens c = spaced_text-round_trips
 
 pub returns-clause-lines : goal.returns-clause-lines
-returns-clause-lines c = reads_lines_back
+returns-clause-lines c = lines_text-round_trips

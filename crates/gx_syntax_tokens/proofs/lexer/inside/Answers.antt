@@ -3,4 +3,4 @@ use Rattle.std.proofs.lemmas.Str.{IsCharBoundary-after_ascii}
 use Rattle.gx_syntax_tokens.proofs.lexer.inside.Goals as goal
 
 pub range-requires-clause-start_boundary : goal.range-requires-clause-start_boundary
-range-requires-clause-start_boundary c = λ _. IsCharBoundary-after_ascii c.args.text.now 0 c.utf8.text (omega (arith, c.requires.marks)) (omega (arith, c.requires.first))
+range-requires-clause-start_boundary c = λ _. IsCharBoundary-after_ascii c.args.text.now 0 c.utf8.text (omega (arith, c.requires.long_enough)) (omega (arith, c.requires.first))

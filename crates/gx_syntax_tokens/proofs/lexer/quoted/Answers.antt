@@ -1,37 +1,40 @@
-use Rattle.std.proofs.Common.{◌≡◌, ◌+◌, arith, drop, false, Some, None}
-use Rattle.gx_syntax_tokens.specs.Quotes.{extent_of, quoted_from}
-use Rattle.gx_syntax_tokens.proofs.ReaderLemmas.{front_of, quoted-edged, quoted-found, quoted-last, quoted-long, quoted-open}
+use Rattle.std.proofs.Common.{◌≡◌, ◌+◌, arith, drop, false, length, Some, None}
+use Rattle.gx_syntax_tokens.specs.Quotes.{closing_quote, unescaped_from}
+use Rattle.gx_syntax_tokens.proofs.ScanLemmas.{quoted-ends, quoted-first, quoted-found, quoted-last, quoted-long, quoted-open}
 use Rattle.gx_syntax_tokens.proofs.lexer.quoted.Goals as goal
 
 pub returns-in_default : goal.returns-in_default
 returns-in_default c =
-    let is : None ≡ extent_of (quoted_from false (drop (c.args.at + 1) c.args.text.now)) = cc (c.in_default.ensures) in
-    quoted-open c.args.text.now c.args.at is
+    let open_text : closing_quote false (drop (c.args.at + 1) c.args.text.now) ≡ None = cc (c.in_default.ensures) in
+    quoted-open c.args.text.now c.args.at open_text
 
-pub returns-then-extent-gt-MOST_TEXT_BYTES : goal.returns-then-extent-gt-MOST_TEXT_BYTES
-returns-then-extent-gt-MOST_TEXT_BYTES c =
-    let is : Some c.in-Some.extent ≡ extent_of (quoted_from false (drop (c.args.at + 1) c.args.text.now)) = cc (c.in-Some.ensures) in
-    quoted-long c.args.text.now c.args.at c.in-Some.extent is c.if-extent-gt-MOST_TEXT_BYTES.true
+pub overflow_add-len : goal.overflow_add-len
+overflow_add-len c =
+    let closes : closing_quote false (drop (c.args.at + 1) c.args.text.now) ≡ Some c.in-Some.len = cc (c.in-Some.ensures) in
+    omega (arith, (quoted-ends _ c.args.at c.in-Some.len c.requires.within c.requires.quote closes).within)
 
-pub overflow_add-extent : goal.overflow_add-extent
-overflow_add-extent c =
-    let is : Some c.in-Some.extent ≡ extent_of (quoted_from false (drop (c.args.at + 1) c.args.text.now)) = cc (c.in-Some.ensures) in
-    omega (arith, (quoted-edged c.args.text.now c.args.at c.in-Some.extent c.requires.within c.requires.begins is).within)
+pub slice-quoted-requires : goal.slice-quoted-requires
+slice-quoted-requires c =
+    let closes : closing_quote false (drop (c.args.at + 1) c.args.text.now) ≡ Some c.in-Some.len = cc (c.in-Some.ensures) in
+    quoted-ends _ _ c.in-Some.len c.requires.within c.requires.quote closes
 
-pub cut-quoted-requires : goal.cut-quoted-requires
-cut-quoted-requires c =
-    let is : Some c.in-Some.extent ≡ extent_of (quoted_from false (drop (c.args.at + 1) c.args.text.now)) = cc (c.in-Some.ensures) in
-    quoted-edged c.args.text.now c.args.at c.in-Some.extent c.requires.within c.requires.begins is
+pub inside-raw-requires-clause-first : goal.inside-raw-requires-clause-first
+inside-raw-requires-clause-first c = quoted-first c.args.text.now _ c.args.at c.in-Some.len c.requires.quote c.slice-quoted.ensures
 
-pub inside-requires-clause-last : goal.inside-requires-clause-last
-inside-requires-clause-last c =
-    let is : Some c.in-Some.extent ≡ extent_of (quoted_from false (drop (c.args.at + 1) c.args.text.now)) = cc (c.in-Some.ensures) in
-    quoted-last c.args.text.now c.args.at c.in-Some.extent c.cut-quoted.result.now is c.cut-quoted.ensures.value c.cut-quoted.ensures.len
+pub inside-raw-requires-clause-last : goal.inside-raw-requires-clause-last
+inside-raw-requires-clause-last c =
+    let closes : closing_quote false (drop (c.args.at + 1) c.args.text.now) ≡ Some c.in-Some.len = cc (c.in-Some.ensures) in
+    quoted-last c.args.text.now _ c.args.at c.in-Some.len closes c.slice-quoted.ensures
+
+pub returns-then-value_len-gt-MOST_TEXT_BYTES : goal.returns-then-value_len-gt-MOST_TEXT_BYTES
+returns-then-value_len-gt-MOST_TEXT_BYTES c =
+    let closes : closing_quote false (drop (c.args.at + 1) c.args.text.now) ≡ Some c.in-Some.len = cc (c.in-Some.ensures) in
+    let len : c.value_len.result ≡ length (unescaped_from false c.inside-raw.result.now) = cc in
+    quoted-long c.args.text.now _ c.inside-raw.result.now c.args.at c.in-Some.len closes c.slice-quoted.ensures c.inside-raw.ensures.slice (omega (arith, len, c.if-value_len-gt-MOST_TEXT_BYTES.true))
 
 pub returns : goal.returns
 returns c =
-    let is : Some c.in-Some.extent ≡ extent_of (quoted_from false (drop (c.args.at + 1) c.args.text.now)) = cc (c.in-Some.ensures) in
-    let edged = quoted-edged c.args.text.now c.args.at c.in-Some.extent c.requires.within c.requires.begins is in
-    quoted-found c.args.text.now c.args.at c.cut-quoted.result c.inside.result c.in-Some.extent is c.if-extent-gt-MOST_TEXT_BYTES.false
-    (front_of c.args.text.now c.cut-quoted.result.now c.args.at (c.in-Some.extent.len + 2) edged c.cut-quoted.ensures.value c.cut-quoted.ensures.len)
-    c.inside.ensures.slice c.inside.ensures.marked
+    let closes : closing_quote false (drop (c.args.at + 1) c.args.text.now) ≡ Some c.in-Some.len = cc (c.in-Some.ensures) in
+    let len : c.value_len.result ≡ length (unescaped_from false c.inside-raw.result.now) = cc in
+    quoted-found c.args.text.now c.args.at c.in-Some.len c.slice-quoted.result c.inside-raw.result closes c.slice-quoted.ensures c.inside-raw.ensures.slice c.inside-raw.ensures.between_quotes
+    (omega (arith, len, c.if-value_len-gt-MOST_TEXT_BYTES.false))

@@ -4,8 +4,8 @@ use Rattle.gx_syntax_tokens.proofs.scan.skip_trivia.Given as goal
 
 abbrev pub invariant-loop-len : goal.invariant-loop-len
 invariant-loop-len l = record {
-  left : tokens_at l.text l.at ≡ tokens_at l.text l.fn.from;
-  ordered : l.fn.from ≤ l.at;
+  tokens_kept : tokens_at l.text l.at ≡ tokens_at l.text l.fn.from;
+  in_order : l.fn.from ≤ l.at;
   within : l.at ≤ length l.text;
 }
 

@@ -2,4 +2,4 @@ use Rattle.std.proofs.Common.{length}
 use Rattle.gx_syntax_tokens.proofs.tokens.tests.spelled.Given as goal
 
 abbrev pub decreases-loop-token : goal.decreases-loop-token
-decreases-loop-token l = length l.tokens.left.tokens
+decreases-loop-token l = length l.tokens.rest.tokens
