@@ -1,4 +1,4 @@
--- Each spelled expression is read.
+-- Each expression that tokens spell is parsed.
 use Rattle.std.proofs.Common.{◌≡◌, ℕ, suc, ◌<◌, ◌≤◌, true, false, IsTrue, Some, None, List, [], ◌∷◌, ◌++◌, refl, ◌∙◌, ap, append_assoc, arith, nat_le, bytes_eq, codes}
 use Rattle.std.proofs.lemmas.Bool.{le-leb}
 use Rattle.gx_syntax_tokens.specs.Terminals.{Terminal, word, number, quoted, symbol, is_symbol}
@@ -19,7 +19,7 @@ use Rattle.gx_syntax_exprs.specs.declared.stack.Frame.{Frame}
 use Rattle.gx_syntax_exprs.specs.declared.stack.Frame.TheVariants as frames
 use Rattle.gx_syntax_exprs.proofs.Levels.{binary_precedence-left_precedence, binary_precedence-right_precedence, unary_precedence-operand_precedence, reduce_stays, reduce_applies, not_true, operator-infix_token}
 
--- an expression of level l ends before these tokens
+-- an expression of level l ends before a token
 pub record EndsLevelAt (l : ℕ) (t : Terminal) : Type 0 where
   pub needed : left_precedence_of (operator t) ≤ l
   pub no_dot : is_symbol symbols.Dot t ≡ false
@@ -65,13 +65,13 @@ first_of (column_ref side name) = record { head = word side; tail = symbol symbo
 first_of (call {ts} name p d) = record { head = word name; tail = symbol symbols.OpenParen ∷ ts ++ symbol symbols.CloseParen ∷ []; whole = refl; no_dot = refl; no_close = refl }
 first_of (parenthesized {ts} d) = record { head = symbol symbols.OpenParen; tail = ts ++ symbol symbols.CloseParen ∷ []; whole = refl; no_dot = refl; no_close = refl }
 
--- an operation that waits is joined where its operand ends
+-- a pending operation is applied if its last operand ends
 folds : (w : Pending) (x : Expr) (st : List Frame) (rest : List Terminal) → EndsLevel (pending_precedence w) rest → parse_from (states.AfterOperand x) (frames.Operator w ∷ st) rest ≡ parse_from (states.AfterOperand (apply w x)) st rest
 unfolding parse_from transition
 folds w x st [] s = ap (λ (r : Expr × List Frame). outcome_at_end (after_reduction None r.0 r.1)) (reduce_applies 1 w x st s)
 folds w x st (t ∷ ts) s = ap (λ (r : Expr × List Frame). outcome_then (λ s' st'. parse_from s' st' ts) (t ∷ ts) (after_reduction (Some t) r.0 r.1)) (reduce_applies (precedence_before (Some t)) w x st s.needed)
 
--- an operator behind its first operand
+-- an infix operator after its left operand
 having_operator : (o : BinaryOp) (a : Expr) (st : List Frame) → min_precedence st ≤ binary_precedence o → after_operand a st (Some (infix_token o)) ≡ continues states.ExpectOperand (frames.Operator (pending.Infix a o) ∷ st)
 having_operator o a st h =
     let found : operator (infix_token o) ≡ Some o = operator-infix_token o in
@@ -84,21 +84,21 @@ operates : (o : BinaryOp) (a : Expr) (st : List Frame) (ts : List Terminal) → 
 unfolding parse_from transition
 operates o a st ts h = ap (λ r. outcome_then (λ s' st'. parse_from s' st' ts) (infix_token o ∷ ts) r) (having_operator o a st h)
 
--- an operator before its operand
+-- a prefix operator
 enters : (o : UnaryOp) (st : List Frame) (ts : List Terminal) → First ts → min_precedence st ≤ unary_precedence o → parse_from states.ExpectOperand st (prefix_token o ∷ ts) ≡ parse_from states.ExpectOperand (frames.Operator (pending.Prefix o) ∷ st) ts
 unfolding parse_from transition
-enters unary.Neg st ts f h = let test : nat_le (min_precedence st) 7 ≡ true = le-leb (min_precedence st) 7 h in rw test refl
+enters unary.Neg st ts f h = let test : nat_le (min_precedence st) (unary_precedence unary.Neg) ≡ true = le-leb (min_precedence st) (unary_precedence unary.Neg) h in rw test refl
 enters unary.Not st ts f h =
-    let test : nat_le (min_precedence st) 3 ≡ true = le-leb (min_precedence st) 3 h in
+    let test : nat_le (min_precedence st) (unary_precedence unary.Not) ≡ true = le-leb (min_precedence st) (unary_precedence unary.Not) h in
     rw (f.whole, f.no_dot, test) refl
 
--- a word that is a constant
+-- a word that is a literal
 stands_alone : (w : List ℕ) (x : Expr) (st : List Frame) (rest : List Terminal) (l : ℕ) → constant_word w ≡ Some x → bytes_eq w not_word ≡ false → EndsLevel l rest → parse_from (states.AfterWord w) st rest ≡ parse_from (states.AfterOperand x) st rest
 unfolding parse_from transition
 stands_alone w x st [] l e n s = rw (n, e) refl
 stands_alone w x st (t ∷ ts) l e n s = rw (s.no_dot, n, s.no_open, e) refl
 
--- the parenthesis of a call
+-- the open parenthesis of a call
 opens : (f : List ℕ) (st : List Frame) (ts : List Terminal) → IsTrue (is_call_name f) → parse_from (states.AfterWord f) st (symbol symbols.OpenParen ∷ ts) ≡ parse_from states.AfterCallParen (frames.Call f [] ∷ st) ts
 unfolding parse_from transition
 opens f st ts h = let other : bytes_eq f not_word ≡ false = not_true (bytes_eq f not_word) h in rw other refl

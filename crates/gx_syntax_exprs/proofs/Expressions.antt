@@ -1,4 +1,4 @@
--- The reader of expressions reads just the expressions.
+-- The parser of expressions is exact.
 use Rattle.std.proofs.Common.{◌≡◌, Bool, true, false, not, if◌then◌else◌, ◌||◌, Option, Some, None, Ok, Err, List, [], ◌∷◌, refl, ◌∙◌, ap, arith}
 use Rattle.gx_syntax_tokens.specs.Terminals.{Terminal, is_symbol}
 use Rattle.gx_syntax_tokens.specs.declared.symbol.Symbol.TheVariants as symbols
@@ -23,8 +23,8 @@ stops : (rest : List Terminal) → StopsBefore goes_on rest → EndsLevel 1 rest
 stops [] e = omega arith
 stops (t ∷ ts) e =
     let none : operator t ≡ None = no_operator t (operator t) refl (or_left (is_operator (operator t)) (is_symbol symbols.Dot t || is_symbol symbols.OpenParen t) e) in
-    let behind : (is_symbol symbols.Dot t || is_symbol symbols.OpenParen t) ≡ false = or_right (is_operator (operator t)) (is_symbol symbols.Dot t || is_symbol symbols.OpenParen t) e in
-    record { needed = rw none (omega arith); no_dot = or_left (is_symbol symbols.Dot t) (is_symbol symbols.OpenParen t) behind; no_open = or_right (is_symbol symbols.Dot t) (is_symbol symbols.OpenParen t) behind }
+    let after : (is_symbol symbols.Dot t || is_symbol symbols.OpenParen t) ≡ false = or_right (is_operator (operator t)) (is_symbol symbols.Dot t || is_symbol symbols.OpenParen t) e in
+    record { needed = rw none (omega arith); no_dot = or_left (is_symbol symbols.Dot t) (is_symbol symbols.OpenParen t) after; no_open = or_right (is_symbol symbols.Dot t) (is_symbol symbols.OpenParen t) after }
 
 after_ends : (t : Terminal) (x : Expr) → on_delimiter t x [] ≡ done x
 after_ends t x = go (is_symbol symbols.CloseParen t) (is_symbol symbols.Comma t)

@@ -51,7 +51,7 @@ pub precedence_before-at_most_8 : (t : Option Terminal) → precedence_before t 
 precedence_before-at_most_8 None = omega arith
 precedence_before-at_most_8 (Some t) = left_precedence_of-at_most_8 (operator t)
 
--- tests
+-- tests of numbers and words
 pub not_le : (a b : ℕ) → b < a → nat_le a b ≡ false
 not_le a b h = go (nat_le a b) refl
   where

@@ -1,7 +1,6 @@
 pub mod Complete
-pub mod Ending
 pub mod Expressions
 pub mod Levels
 pub mod Local
 pub mod Sound
-pub mod Turns
+pub mod StepLemmas

@@ -1,4 +1,4 @@
--- The reader of expressions does not look beyond the token where it stops.
+-- The parser of expressions does not look beyond the token at which it stops.
 use Rattle.std.proofs.Common.{◌≡◌, ◌<◌, ◌≤◌, Option, Some, None, Result, Ok, Err, List, [], ◌∷◌, ◌++◌, length, refl, ap, subst, arith, length-append}
 use Rattle.gx_syntax_tokens.specs.Terminals.{Terminal}
 use Rattle.gx_syntax_exprs.specs.Combinators.{result_at}
@@ -8,10 +8,10 @@ use Rattle.gx_syntax_exprs.specs.declared.steps.State.{State}
 use Rattle.gx_syntax_exprs.specs.declared.stack.Frame.{Frame}
 use Rattle.gx_syntax_exprs.specs.ExactParsers.{ok_same, err_same}
 
--- an answer leaves no more than there was
+-- no more tokens remain than there were
 abbrev Within : List Terminal → Result (Expr × List Terminal) (List Terminal) → Type 0
 Within ts (Ok r) = length r.1 ≤ length ts
-Within ts (Err left) = length left ≤ length ts
+Within ts (Err rest) = length rest ≤ length ts
 
 within_finished : (a : StepOutcome) → Within [] (outcome_at_end a)
 within_finished (continues s st) = omega arith
@@ -20,25 +20,25 @@ within_finished rejects = omega arith
 
 within_more : (t : Terminal) (ts : List Terminal) (r : Result (Expr × List Terminal) (List Terminal)) → Within ts r → Within (t ∷ ts) r
 within_more t ts (Ok r) h = omega arith
-within_more t ts (Err left) h = omega arith
+within_more t ts (Err rest) h = omega arith
 
-within_answered : (next : State → List Frame → Result (Expr × List Terminal) (List Terminal)) (t : Terminal) (ts : List Terminal) (a : StepOutcome)
+within_outcome : (next : State → List Frame → Result (Expr × List Terminal) (List Terminal)) (t : Terminal) (ts : List Terminal) (a : StepOutcome)
     → ((s : State) (st : List Frame) → Within ts (next s st)) → Within (t ∷ ts) (outcome_then next (t ∷ ts) a)
-within_answered next t ts (continues s st) h = within_more t ts (next s st) (h s st)
-within_answered next t ts (done x) h = omega arith
-within_answered next t ts rejects h = omega arith
+within_outcome next t ts (continues s st) h = within_more t ts (next s st) (h s st)
+within_outcome next t ts (done x) h = omega arith
+within_outcome next t ts rejects h = omega arith
 
 within : (ts : List Terminal) (s : State) (st : List Frame) → Within ts (parse_from s st ts)
 unfolding parse_from
 within [] s st = within_finished (transition s st None)
-within (t ∷ ts) s st = within_answered (λ s' st'. parse_from s' st' ts) t ts (transition s st (Some t)) (λ s' st'. within ts s' st')
+within (t ∷ ts) s st = within_outcome (λ s' st'. parse_from s' st' ts) t ts (transition s st (Some t)) (λ s' st'. within ts s' st')
 
--- an answer that leaves more than there was is none
+-- no result has a longer rest
 too_long : (ts rest : List Terminal) (o : Option Expr) → length ts < length rest → Within ts (result_at o rest) → ⊥
 too_long ts rest (Some x) h w = absurd (omega arith)
 too_long ts rest None h w = absurd (omega arith)
 
--- an answer where one stops
+-- the outcome at the token at which it stops
 ends_local : (x : Expr) (ts : List Terminal) (t : Terminal) (r s : List Terminal) (o : Option Expr) → ts ≡ t ∷ r → ◌≡◌ {A = Result (Expr × List Terminal) (List Terminal)} (Ok (x, ts)) (result_at o (t ∷ r))
     → ◌≡◌ {A = Result (Expr × List Terminal) (List Terminal)} (Ok (x, t ∷ s)) (result_at o (t ∷ s))
 ends_local x ts t r s None e h = cc

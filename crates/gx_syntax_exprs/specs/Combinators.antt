@@ -12,12 +12,12 @@ Parser T A = List T → Result (A × List T) (List T)
 
 -- the next parser, on the rest of the tokens
 infixl 10 ◌>>=◌
-abbrev pub ◌>>=◌ : {T A B : Type 0} → Result (A × List T) (List T) → (A → List T → Result (B × List T) (List T)) → Result (B × List T) (List T)
+abbrev pub ◌>>=◌ : {T A B : Type 0} → Result (A × List T) (List T) → (A → Parser T B) → Result (B × List T) (List T)
 Ok r >>= next = next r.0 r.1
 Err rest >>= next = Err rest
 
 -- parses no token, and returns x
-abbrev pub pure : {T A : Type 0} → A → List T → Result (A × List T) (List T)
+abbrev pub pure : {T A : Type 0} → A → Parser T A
 pure x ts = Ok (x, ts)
 
 abbrev pub satisfied_by : {T A : Type 0} → Option A → T → List T → Result (A × List T) (List T)
@@ -25,30 +25,30 @@ satisfied_by (Some x) t ts = Ok (x, ts)
 satisfied_by None t ts = Err (t ∷ ts)
 
 -- parses one token that has a value
-abbrev pub satisfy : {T A : Type 0} → (T → Option A) → List T → Result (A × List T) (List T)
+abbrev pub satisfy : {T A : Type 0} → (T → Option A) → Parser T A
 satisfy value [] = Err []
 satisfy value (t ∷ ts) = satisfied_by (value t) t ts
 
 -- parses by p, and the rest by the parser that f returns for the value of p
-abbrev pub seq : {T A B : Type 0} → (List T → Result (A × List T) (List T)) → (A → List T → Result (B × List T) (List T)) → List T → Result (B × List T) (List T)
+abbrev pub seq : {T A B : Type 0} → Parser T A → (A → Parser T B) → Parser T B
 seq p f ts = p ts >>= f
 
 -- parses by p, and returns f of its value
-abbrev pub map_value : {T A B : Type 0} → (A → B) → (List T → Result (A × List T) (List T)) → List T → Result (B × List T) (List T)
+abbrev pub map_value : {T A B : Type 0} → (A → B) → Parser T A → Parser T B
 map_value f p ts = p ts >>= λ x rest. Ok (f x, rest)
 
 -- parses by p if the next token passes a test, and by q otherwise
-abbrev pub if_next : {T A : Type 0} → (T → Bool) → (List T → Result (A × List T) (List T)) → (List T → Result (A × List T) (List T)) → List T → Result (A × List T) (List T)
+abbrev pub if_next : {T A : Type 0} → (T → Bool) → Parser T A → Parser T A → Parser T A
 if_next test p q [] = q []
 if_next test p q (t ∷ ts) = if test t then p (t ∷ ts) else q (t ∷ ts)
 
 -- parses by p while the next token passes a test, fewer than n times
-unfoldable pub many : {T A : Type 0} → (T → Bool) → (List T → Result (A × List T) (List T)) → ℕ → List T → Result (List A × List T) (List T)
+unfoldable pub many : {T A : Type 0} → (T → Bool) → Parser T A → ℕ → Parser T (List A)
 many starts p zero ts = Err ts
 many starts p (suc n) ts = if_next starts (seq p (λ x. map_value (λ xs. x ∷ xs) (many starts p n))) (pure []) ts
 
 -- parses by p while the next token passes a test
-unfoldable pub many_while : {T A : Type 0} → (T → Bool) → (List T → Result (A × List T) (List T)) → List T → Result (List A × List T) (List T)
+unfoldable pub many_while : {T A : Type 0} → (T → Bool) → Parser T A → Parser T (List A)
 many_while starts p ts = many starts p (suc (length ts)) ts
 
 -- the words of one token
@@ -134,16 +134,16 @@ pub record Starts {T : Type 0} (test : T → Bool) (w : List T) : Type 0 where
   pub passes : test head ≡ true
 
 -- each result is sound, and depends on no token after the one at which the parser stops
-pub record IsSoundAndLocal {T A : Type 0} (L : List T → A → Type 0) (p : List T → Result (A × List T) (List T)) : Type 0 where
+pub record IsSoundAndLocal {T A : Type 0} (L : List T → A → Type 0) (p : Parser T A) : Type 0 where
   pub nonempty : IsViablePrefix L []
   pub sound : (ts : List T) → IsSound L ts (p ts)
   pub local : (w : List T) (t : T) (r s : List T) (o : Option A) → p (w ++ t ∷ r) ≡ result_at o (t ∷ r) → p (w ++ t ∷ s) ≡ result_at o (t ∷ s)
 
 -- each word is parsed, if no token follows with which a word goes on
-abbrev pub IsComplete : {T A : Type 0} → (List T → A → Type 0) → (T → Bool) → (List T → Result (A × List T) (List T)) → Type 0
+abbrev pub IsComplete : {T A : Type 0} → (List T → A → Type 0) → (T → Bool) → Parser T A → Type 0
 IsComplete {T = T} {A = A} L go p = (w rest : List T) (x : A) → L w x → StopsBefore go rest → p (w ++ rest) ≡ Ok (x, rest)
 
 -- a parser that parses the words of a language and nothing else
-pub record IsExact {T A : Type 0} (L : List T → A → Type 0) (go : T → Bool) (p : List T → Result (A × List T) (List T)) : Type 0 where
+pub record IsExact {T A : Type 0} (L : List T → A → Type 0) (go : T → Bool) (p : Parser T A) : Type 0 where
   pub sound_and_local : IsSoundAndLocal L p
   pub complete : IsComplete L go p

@@ -3,7 +3,7 @@
 use Rattle.std.proofs.Common.{◌≡◌, ◌≤◌, ◌-◌, Bool, true, false, if◌then◌else◌, ◌||◌, inl, inr, Option, Some, None, Result, Ok, Err, List, [], ◌∷◌, ◌++◌, length, take, drop, refl, sym, ◌∙◌, ap, subst, append_assoc, arith, length-append}
 use Rattle.std.proofs.Math.Seq.{take-append_seam, drop-append_seam}
 use Rattle.std.proofs.lemmas.List.{append-nil}
-use Rattle.gx_syntax_exprs.specs.Combinators.{◌>>=◌, pure, satisfy, satisfied_by, seq, if_next, Satisfies, Empty, Then, Either, IsViablePrefix, IsParsed, IsStuck, NoWordContinues, IsRefused, IsSound, result_at, StopsBefore, Starts, IsSoundAndLocal, IsComplete, IsExact}
+use Rattle.gx_syntax_exprs.specs.Combinators.{Parser, ◌>>=◌, pure, satisfy, satisfied_by, seq, if_next, Satisfies, Empty, Then, Either, IsViablePrefix, IsParsed, IsStuck, NoWordContinues, IsRefused, IsSound, result_at, StopsBefore, Starts, IsSoundAndLocal, IsComplete, IsExact}
 
 -- equal results have equal values and rests
 pub ok_same : {X Y : Type 0} {a b : X} → ◌≡◌ {A = Result X Y} (Ok a) (Ok b) → a ≡ b
@@ -31,8 +31,8 @@ cancel (a ∷ w) (b ∷ v) ts e =
     let tails : w ++ ts ≡ v ++ ts = cc in
     rw (heads, cancel w v ts tails) refl
 
-pub empty_front : {T : Type 0} (w : List T) (ts : List T) → w ++ ts ≡ ts → w ≡ []
-empty_front w ts e = cancel w [] ts e
+pub empty_prefix : {T : Type 0} (w : List T) (ts : List T) → w ++ ts ≡ ts → w ≡ []
+empty_prefix w ts e = cancel w [] ts e
 
 -- no token
 pub pure_local : {T A : Type 0} (y : A) (w : List T) (t : T) (r s : List T) (o : Option A) → pure y (w ++ t ∷ r) ≡ result_at o (t ∷ r) → pure y (w ++ t ∷ s) ≡ result_at o (t ∷ s)
@@ -40,7 +40,7 @@ pure_local y w t r s None e = cc
 pure_local {T = T} {A = A} y w t r s (Some x) e =
     let both : (y, w ++ t ∷ r) ≡ (x, t ∷ r) = ok_same e in
     let value : y ≡ x = ap (λ (p : A × List T). p.0) both in
-    let empty : w ≡ [] = empty_front w (t ∷ r) (ap (λ (p : A × List T). p.1) both) in
+    let empty : w ≡ [] = empty_prefix w (t ∷ r) (ap (λ (p : A × List T). p.1) both) in
     rw (value, empty) refl
 
 pub pure_exact : {T A : Type 0} (y : A) → IsExact {T = T} (Empty y) (λ t. false) (pure y)
@@ -82,19 +82,19 @@ satisfy_local test (u ∷ w) t r s o e = satisfied_local (test u) w u t r s o e
 pub satisfy_exact : {T A : Type 0} (test : T → Option A) (t : T) (x : A) → test t ≡ Some x → IsExact (Satisfies test) (λ t. false) (satisfy test)
 satisfy_exact test t x e = record {
   sound_and_local = record {
-    nonempty = begun;
+    nonempty = viable_empty;
     sound = sound;
     local = satisfy_local test;
   };
   complete = λ w rest y h _. rw (h.whole, h.passes) refl;
 }
   where
-    begun : IsViablePrefix (Satisfies test) []
-    begun = record { rest = t ∷ []; value = x; spells = record { token = t; whole = refl; passes = e } }
+    viable_empty : IsViablePrefix (Satisfies test) []
+    viable_empty = record { rest = t ∷ []; value = x; spells = record { token = t; whole = refl; passes = e } }
 
     sound : (ts : _) → IsSound (Satisfies test) ts (satisfy test ts)
-    sound [] = record { consumed = []; whole = refl; viable = begun }
-    sound (u ∷ us) = satisfied_sound test begun u us (test u) refl
+    sound [] = record { consumed = []; whole = refl; viable = viable_empty }
+    sound (u ∷ us) = satisfied_sound test viable_empty u us (test u) refl
 
 -- words of a larger language
 pub viable_in : {T A : Type 0} (L M : List T → A → Type 0) → ((w : List T) (x : A) → L w x → M w x) → (consumed : List T) → IsViablePrefix L consumed → IsViablePrefix M consumed
@@ -104,7 +104,7 @@ pub sound_in : {T A : Type 0} (L M : List T → A → Type 0) → ((w : List T) 
 sound_in L M f ts (Ok r) h = record { consumed = h.consumed; whole = h.whole; spells = f _ _ h.spells }
 sound_in L M f ts (Err rest) h = record { consumed = h.consumed; whole = h.whole; viable = viable_in L M f _ h.viable }
 
-pub sound_and_local_in : {T A : Type 0} (L M : List T → A → Type 0) (p : List T → Result (A × List T) (List T)) → ((w : List T) (x : A) → L w x → M w x) → IsSoundAndLocal L p → IsSoundAndLocal M p
+pub sound_and_local_in : {T A : Type 0} (L M : List T → A → Type 0) (p : Parser T A) → ((w : List T) (x : A) → L w x → M w x) → IsSoundAndLocal L p → IsSoundAndLocal M p
 sound_and_local_in L M p f P = record {
   nonempty = viable_in L M f [] P.nonempty;
   sound = λ ts. sound_in L M f ts (p ts) (P.sound ts);
@@ -112,7 +112,7 @@ sound_and_local_in L M p f P = record {
 }
 
 -- one parser after another
-module _ {T A B : Type 0} (L : List T → A → Type 0) (M : A → List T → B → Type 0) (p : List T → Result (A × List T) (List T)) (f : A → List T → Result (B × List T) (List T)) where
+module _ {T A B : Type 0} (L : List T → A → Type 0) (M : A → List T → B → Type 0) (p : Parser T A) (f : A → Parser T B) where
   then_viable : ((x : A) → IsSoundAndLocal (M x) (f x)) → (consumed : List T) → IsViablePrefix L consumed → IsViablePrefix (Then L M) consumed
   then_viable F consumed b =
       let more_of = (F b.value).nonempty in
@@ -152,8 +152,8 @@ module _ {T A B : Type 0} (L : List T → A → Type 0) (M : A → List T → B 
   then_again P u v mid t r s o x F e h g =
       let read : p (u ++ (v ++ t ∷ r)) ≡ Ok (x, v ++ t ∷ r) = rw (← e) h in
       let again : p (u ++ (v ++ t ∷ s)) ≡ Ok (x, v ++ t ∷ s) = moved P u v t r s x read in
-      let behind : f x (v ++ t ∷ s) ≡ result_at o (t ∷ s) = F.local v t r s o (rw (← e) g) in
-      rw (append_assoc, again) behind
+      let after : f x (v ++ t ∷ s) ≡ result_at o (t ∷ s) = F.local v t r s o (rw (← e) g) in
+      rw (append_assoc, again) after
 
   then_local : IsSoundAndLocal L p → ((x : A) → IsSoundAndLocal (M x) (f x)) → (w : List T) (t : T) (r s : List T) (o : Option B)
       → (q : Result (A × List T) (List T)) → p (w ++ t ∷ r) ≡ q → IsSound L (w ++ t ∷ r) q → q >>= f ≡ result_at o (t ∷ r) → seq p f (w ++ t ∷ s) ≡ result_at o (t ∷ s)
@@ -166,8 +166,8 @@ module _ {T A B : Type 0} (L : List T → A → Type 0) (M : A → List T → B 
   then_local P F w t r s o (Ok q) e h g =
       let mid = suffix_of (M q.0) q.1 (t ∷ r) o (subst (λ a. IsSound (M q.0) q.1 a) g ((F q.0).sound q.1)) in
       let whole : w ++ t ∷ r ≡ (h.consumed ++ mid.consumed) ++ t ∷ r = h.whole ∙ ap (λ v. h.consumed ++ v) mid.whole ∙ sym (append_assoc h.consumed mid.consumed (t ∷ r)) in
-      let fronts : w ≡ h.consumed ++ mid.consumed = cancel w (h.consumed ++ mid.consumed) (t ∷ r) whole in
-      subst (λ a. seq p f (a ++ t ∷ s) ≡ result_at o (t ∷ s)) (sym fronts) (then_again P h.consumed mid.consumed q.1 t r s o q.0 (F q.0) mid.whole (ap p (sym h.whole) ∙ e) g)
+      let prefixes : w ≡ h.consumed ++ mid.consumed = cancel w (h.consumed ++ mid.consumed) (t ∷ r) whole in
+      subst (λ a. seq p f (a ++ t ∷ s) ≡ result_at o (t ∷ s)) (sym prefixes) (then_again P h.consumed mid.consumed q.1 t r s o q.0 (F q.0) mid.whole (ap p (sym h.whole) ∙ e) g)
 
   pub seq_sound_and_local : IsSoundAndLocal L p → ((x : A) → IsSoundAndLocal (M x) (f x)) → IsSoundAndLocal (Then L M) (seq p f)
   seq_sound_and_local P F = record {
@@ -202,7 +202,7 @@ stops_right g h [] e = tt
 stops_right g h (t ∷ ts) e = or_right (g t) (h t) e
 
 -- one of two parsers, by the next token
-module _ {T A : Type 0} (L M : List T → A → Type 0) (test : T → Bool) (p q : List T → Result (A × List T) (List T)) where
+module _ {T A : Type 0} (L M : List T → A → Type 0) (test : T → Bool) (p q : Parser T A) where
   if_next_sound : IsSoundAndLocal L p → IsSoundAndLocal M q → (b : Bool) (ts : List T) → IsSound (Either L M) ts (if b then p ts else q ts)
   if_next_sound P Q true ts = sound_in L (Either L M) (λ w x d. inl d) ts (p ts) (P.sound ts)
   if_next_sound P Q false ts = sound_in M (Either L M) (λ w x d. inr d) ts (q ts) (Q.sound ts)
@@ -257,9 +257,9 @@ take-consumed ts consumed rest e =
     rw count (ap (take (length consumed)) e ∙ take-append_seam consumed rest)
 
 -- a refusal of an exact parser in the words of the language
-module _ {T A : Type 0} (L : List T → A → Type 0) (go : T → Bool) (p : List T → Result (A × List T) (List T)) (exact : IsExact L go p) where
-  not_both : (ts : List T) (x : A) (rest left : List T) → p ts ≡ Ok (x, rest) → p ts ≡ Err left → ⊥
-  not_both ts x rest left e h = absurd (let lie : ◌≡◌ {A = Result (A × List T) (List T)} (Ok (x, rest)) (Err left) = sym e ∙ h in cc)
+module _ {T A : Type 0} (L : List T → A → Type 0) (go : T → Bool) (p : Parser T A) (exact : IsExact L go p) where
+  not_both : (ts : List T) (x : A) (rest refused : List T) → p ts ≡ Ok (x, rest) → p ts ≡ Err refused → ⊥
+  not_both ts x rest refused e h = absurd (let lie : ◌≡◌ {A = Result (A × List T) (List T)} (Ok (x, rest)) (Err refused) = sym e ∙ h in cc)
 
   not_viable : (w : List T) (t : T) (r : List T) → p (w ++ t ∷ r) ≡ Err (t ∷ r) → IsViablePrefix L (w ++ t ∷ []) → ⊥
   not_viable w t r e b =

@@ -1,10 +1,10 @@
 -- A parser that repeats an exact parser is exact.
 use Rattle.std.proofs.Common.{◌≡◌, ℕ, zero, suc, ◌<◌, ◌≤◌, ◌+◌, Bool, true, false, ◌||◌, inl, inr, Option, Some, None, Result, Ok, Err, List, [], ◌∷◌, ◌++◌, length, refl, sym, ◌∙◌, ap, append_assoc, arith, length-append}
 use Rattle.std.proofs.lemmas.List.{append-nil}
-use Rattle.gx_syntax_exprs.specs.Combinators.{◌>>=◌, pure, seq, map_value, many, many_while, Empty, Then, Either, Many, none, more, IsViablePrefix, IsSound, result_at, StopsBefore, Starts, IsSoundAndLocal, IsComplete, IsExact}
-use Rattle.gx_syntax_exprs.specs.ExactParsers.{ok_same, err_same, empty_front, sound_and_local_in, pure_exact, seq_sound_and_local, if_next_sound_and_local, stops_left, stops_right}
+use Rattle.gx_syntax_exprs.specs.Combinators.{Parser, ◌>>=◌, pure, seq, map_value, many, many_while, Empty, Then, Either, Many, none, more, IsViablePrefix, IsSound, result_at, StopsBefore, Starts, IsSoundAndLocal, IsComplete, IsExact}
+use Rattle.gx_syntax_exprs.specs.ExactParsers.{ok_same, err_same, empty_prefix, sound_and_local_in, pure_exact, seq_sound_and_local, if_next_sound_and_local, stops_left, stops_right}
 
-module _ {T A : Type 0} (L : List T → A → Type 0) (starts : T → Bool) (p : List T → Result (A × List T) (List T)) where
+module _ {T A : Type 0} (L : List T → A → Type 0) (starts : T → Bool) (p : Parser T A) where
   abbrev Round : List T → List A → Type 0
   Round = Either (Then L (λ x. Then (Many L) (λ xs. Empty (x ∷ xs)))) (Empty [])
 
@@ -16,7 +16,7 @@ module _ {T A : Type 0} (L : List T → A → Type 0) (starts : T → Bool) (p :
 
   stuck_local : (w : List T) (t : T) (r s : List T) (o : Option (List A)) → ◌≡◌ {A = Result (List A × List T) (List T)} (Err (w ++ t ∷ r)) (result_at o (t ∷ r)) → ◌≡◌ {A = Result (List A × List T) (List T)} (Err (w ++ t ∷ s)) (result_at o (t ∷ s))
   stuck_local w t r s (Some x) e = cc
-  stuck_local w t r s None e = let empty : w ≡ [] = empty_front w (t ∷ r) (err_same e) in rw empty refl
+  stuck_local w t r s None e = let empty : w ≡ [] = empty_prefix w (t ∷ r) (err_same e) in rw empty refl
 
   none_viable : IsViablePrefix (Many L) []
   none_viable = record { rest = []; value = []; spells = none }
@@ -67,14 +67,14 @@ module _ {T A : Type 0} (L : List T → A → Type 0) (starts : T → Bool) (p :
 
   many_on : (q : Result (A × List T) (List T)) (n : ℕ) (xs : List A) (rest : List T) → ((mid : List T) (ys : List A) → many starts p n mid ≡ Ok (ys, rest) → rest ≡ [])
       → (q >>= λ x. map_value (λ ys. x ∷ ys) (many starts p n)) ≡ Ok (xs, rest) → rest ≡ []
-  many_on (Err left) n xs rest again e = absurd (let lie : ◌≡◌ {A = Result (List A × List T) (List T)} (Err left) (Ok (xs, rest)) = e in cc)
+  many_on (Err stuck) n xs rest again e = absurd (let lie : ◌≡◌ {A = Result (List A × List T) (List T)} (Err stuck) (Ok (xs, rest)) = e in cc)
   many_on (Ok q) n xs rest again e = go (many starts p n q.1) refl e
     where
-      go : (r : Result (List A × List T) (List T)) → many starts p n q.1 ≡ r → (r >>= λ ys left. Ok (q.0 ∷ ys, left)) ≡ Ok (xs, rest) → rest ≡ []
-      go (Err left) h i = absurd (let lie : ◌≡◌ {A = Result (List A × List T) (List T)} (Err left) (Ok (xs, rest)) = i in cc)
+      go : (r : Result (List A × List T) (List T)) → many starts p n q.1 ≡ r → (r >>= λ ys rest. Ok (q.0 ∷ ys, rest)) ≡ Ok (xs, rest) → rest ≡ []
+      go (Err stuck) h i = absurd (let lie : ◌≡◌ {A = Result (List A × List T) (List T)} (Err stuck) (Ok (xs, rest)) = i in cc)
       go (Ok r) h i =
-          let left : r.1 ≡ rest = ap (λ (v : List A × List T). v.1) (ok_same i) in
-          again q.1 r.0 (h ∙ ap (λ l. Ok (r.0, l)) left)
+          let same : r.1 ≡ rest = ap (λ (v : List A × List T). v.1) (ok_same i) in
+          again q.1 r.0 (h ∙ ap (λ l. Ok (r.0, l)) same)
 
   -- if each token begins a word, no token remains
   pub many_whole : ((t : T) → starts t ≡ true) → (n : ℕ) (ts : List T) (xs : List A) (rest : List T) → many starts p n ts ≡ Ok (xs, rest) → rest ≡ []
@@ -123,7 +123,7 @@ module _ {T A : Type 0} (L : List T → A → Type 0) (starts : T → Bool) (p :
       let lengths : length (w ++ ws ++ rest) ≡ length (s.head ∷ s.tail) + length (ws ++ rest) = ap length (append_assoc w ws rest) ∙ length-append w (ws ++ rest) ∙ ap (λ v. length v + length (ws ++ rest)) s.whole in
       let read : p (w ++ (ws ++ rest)) ≡ Ok (x, ws ++ rest) = P.complete w (ws ++ rest) x d (ends_many g apart heads ds rest e) in
       let after : many starts p n (ws ++ rest) ≡ Ok (xs, rest) = many_complete g P heads apart n ds rest (omega (arith, lengths)) e in
-      rw append_assoc (many_more n w (ws ++ rest) x s read ∙ ap (λ r. r >>= λ ys left. Ok (x ∷ ys, left)) after)
+      rw append_assoc (many_more n w (ws ++ rest) x s read ∙ ap (λ r. r >>= λ ys rest. Ok (x ∷ ys, rest)) after)
 
   pub many_while_exact : (g : T → Bool) → IsExact L g p → ((w : List T) (x : A) → L w x → Starts starts w) → ((t : T) → starts t ≡ true → g t ≡ false)
       → IsExact (Many L) (λ t. g t || starts t) (many_while starts p)

@@ -1,20 +1,19 @@
 -- The parser of expressions, as crates above cite it: what it accepts is said in the words of the
 -- grammar.
-use Rattle.std.specs.Prelude.{Bool, true, false, not, ◌||◌, Option, Some, None, List, [], Result}
+use Rattle.std.specs.Prelude.{Bool, true, false, not, ◌||◌, Option, Some, None, List, Result}
 use Rattle.gx_syntax_tokens.specs.Terminals.{Terminal, is_symbol}
 use Rattle.gx_syntax_tokens.specs.declared.symbol.Symbol.TheVariants as symbols
 use Rattle.gx_syntax_exprs.specs.Combinators.{Starts}
 use Rattle.gx_syntax_exprs.specs.Grammar.{Spells}
 use Rattle.gx_syntax_exprs.specs.Operators.{operator}
-use Rattle.gx_syntax_exprs.specs.PrecedenceParser.{parse_from}
+use Rattle.gx_syntax_exprs.specs.PrecedenceParser.{parse_first}
 use Rattle.gx_syntax_tree.specs.declared.expr.BinaryOp.{BinaryOp}
 use Rattle.gx_syntax_tree.specs.declared.expr.Expr.{Expr}
-use Rattle.gx_syntax_exprs.specs.declared.steps.State.TheVariants as states
 
 -- the longest expression that tokens begin with, and the rest; or the tokens from the refused one
 -- on
 unfoldable pub expression : List Terminal → Result (Expr × List Terminal) (List Terminal)
-expression ts = parse_from states.ExpectOperand [] ts
+expression ts = parse_first ts
 
 abbrev pub is_operator : Option BinaryOp → Bool
 is_operator None = false

@@ -1,8 +1,8 @@
 -- The grammar of expressions: which tokens spell which tree.
 --
--- To add an operator, give it a token in specs/Operators.antt and its levels in
--- specs/Precedence.antt of gx_syntax_tree; this file stays as it is. To add a kind of operand, add
--- a constructor of level 8 to `Spells`, a branch to `on_atom` or `after_word` of
+-- To add an infix operator, give it a token in specs/Operators.antt and its levels in
+-- specs/Precedence.antt of gx_syntax_tree; this file stays as it is. To add a kind of operand, add a
+-- constructor of level 8 to `Spells`, a branch to `on_atom` or `after_word` of
 -- specs/PrecedenceParser.antt and its function in src/steps.rt, and a case to the lemmas `complete`
 -- (proofs/Complete.antt) and `justified` (proofs/Sound.antt).
 use Rattle.std.specs.Prelude.{◌≡◌, ◌≤◌, ◌+◌, ◌-◌, ℕ, zero, suc, Bool, true, false, not, nat_lt, IsTrue, List, [], ◌∷◌, ◌++◌, codes, bytes_eq, pos, refl}

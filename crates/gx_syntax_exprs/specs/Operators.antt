@@ -1,8 +1,9 @@
 -- The tokens of the operators, from the loosest to the tightest: `or`, `and`, `not`, comparisons,
 -- sums, products, the sign.
 --
--- To add an operator, change its token here, the function that finds it (`symbol_operator` or
--- `word_operator`, here and in src/operators.rt), and its levels in gx_syntax_tree.
+-- To add an infix operator, change `infix_token`, the function that finds it (`symbol_operator` or
+-- `word_operator`, here and in src/operators.rt) with its case in proofs/Levels.antt, and its levels
+-- in gx_syntax_tree.
 use Rattle.std.specs.Prelude.{ℕ, Option, Some, None, if◌then◌else◌, codes, bytes_eq, List}
 use Rattle.gx_syntax_tokens.specs.Terminals.{Terminal, word, number, quoted, symbol}
 use Rattle.gx_syntax_tokens.specs.declared.symbol.Symbol.{Symbol}

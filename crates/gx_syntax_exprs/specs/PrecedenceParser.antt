@@ -2,8 +2,9 @@
 -- begun and not ended.
 --
 -- These are the definitions of the private functions of src/stack.rt and src/steps.rt. Crates above
--- cite specs/Expressions.antt, which says what is parsed, and not how. A new operator needs no
--- change here. A new kind of operand needs a branch in `on_atom` or `after_word`, and a state if it
+-- cite specs/Expressions.antt, which says what is parsed, and not how. A new infix operator needs no
+-- change here; a new prefix operator needs a branch in `on_operand_start`, or in `after_word` if it
+-- is a word. A new kind of operand needs a branch in `on_atom` or `after_word`, and a state if it
 -- has several tokens.
 use Rattle.std.specs.Prelude.{◌≡◌, ℕ, true, false, nat_le, if◌then◌else◌, Option, Some, None, List, [], ◌∷◌, ◌++◌, Result, Ok, Err, codes, bytes_eq}
 use Rattle.gx_syntax_tokens.specs.Terminals.{Terminal, word, number, quoted, symbol, is_symbol}
@@ -12,6 +13,7 @@ use Rattle.gx_syntax_exprs.specs.Operators.{operator, not_word}
 use Rattle.gx_syntax_tree.specs.Precedence.{binary_precedence, left_precedence, right_precedence, unary_precedence, operand_precedence}
 use Rattle.gx_syntax_exprs.specs.Grammar.{number_expr, quoted_expr, truth_expr, matched_expr, column_expr, call_expr, unary_expr, binary_expr, fits_i64}
 use Rattle.gx_syntax_tree.specs.declared.expr.BinaryOp.{BinaryOp}
+use Rattle.gx_syntax_tree.specs.declared.expr.UnaryOp.{UnaryOp}
 use Rattle.gx_syntax_tree.specs.declared.expr.UnaryOp.TheVariants as unary
 use Rattle.gx_syntax_tree.specs.declared.expr.Expr.{Expr}
 use Rattle.gx_syntax_exprs.specs.declared.stack.Pending.{Pending}
@@ -95,11 +97,16 @@ on_end x (f ∷ st) = rejects
 
 -- an operator after a whole operand
 abbrev pub on_operator : BinaryOp → Expr → List Frame → StepOutcome
-on_operator o x st = if nat_le (min_precedence st) (binary_precedence o) then continues states.ExpectOperand (frames.Operator (pending.Infix x o) ∷ st) else rejects
+on_operator o x st =
+    if nat_le (min_precedence st) (binary_precedence o)
+    then continues states.ExpectOperand (frames.Operator (pending.Infix x o) ∷ st)
+    else rejects
 
 -- a token that is not an operator, after a whole operand
 abbrev pub on_delimiter : Terminal → Expr → List Frame → StepOutcome
-on_delimiter t x st = if is_symbol symbols.CloseParen t then on_close_paren x st else (if is_symbol symbols.Comma t then on_comma x st else on_end x st)
+on_delimiter t x st =
+    if is_symbol symbols.CloseParen t then on_close_paren x st
+    else (if is_symbol symbols.Comma t then on_comma x st else on_end x st)
 
 -- the least level of the operations that end before a token
 abbrev pub left_precedence_of : Option BinaryOp → ℕ
@@ -129,9 +136,18 @@ on_atom (number n) st = if fits_i64 n then continues (states.AfterOperand (numbe
 on_atom (quoted s) st = continues (states.AfterOperand (quoted_expr s)) st
 on_atom (symbol s) st = rejects
 
+-- a prefix operator
+abbrev pub on_prefix : UnaryOp → List Frame → StepOutcome
+on_prefix o st =
+    if nat_le (min_precedence st) (unary_precedence o)
+    then continues states.ExpectOperand (frames.Operator (pending.Prefix o) ∷ st)
+    else rejects
+
 -- at the start of an operand
 abbrev pub on_operand_start : Terminal → List Frame → StepOutcome
-on_operand_start t st = if is_symbol symbols.OpenParen t then continues states.ExpectOperand (frames.Paren ∷ st) else (if is_symbol symbols.Minus t then (if nat_le (min_precedence st) 7 then continues states.ExpectOperand (frames.Operator (pending.Prefix unary.Neg) ∷ st) else rejects) else on_atom t st)
+on_operand_start t st =
+    if is_symbol symbols.OpenParen t then continues states.ExpectOperand (frames.Paren ∷ st)
+    else (if is_symbol symbols.Minus t then on_prefix unary.Neg st else on_atom t st)
 
 -- `)` after the open parenthesis of a call
 abbrev pub on_empty_call : List Frame → StepOutcome
@@ -142,7 +158,11 @@ on_empty_call (frames.Call f xs ∷ st) = continues (states.AfterOperand (call_e
 
 -- the literal that a word is, if it is not a name
 abbrev pub constant_word : List ℕ → Option Expr
-constant_word w = if bytes_eq w (codes "true") then Some (truth_expr true) else (if bytes_eq w (codes "false") then Some (truth_expr false) else (if bytes_eq w (codes "matched") then Some matched_expr else None))
+constant_word w =
+    if bytes_eq w (codes "true") then Some (truth_expr true)
+    else (if bytes_eq w (codes "false") then Some (truth_expr false)
+    else (if bytes_eq w (codes "matched") then Some matched_expr
+    else None))
 
 abbrev pub on_constant_word : Option Expr → List Frame → Option Terminal → StepOutcome
 on_constant_word None st t = rejects
@@ -155,12 +175,19 @@ on_lone_word w st t = on_constant_word (constant_word w) st t
 -- after the word `not`, if no `.` follows
 abbrev pub on_not : List Frame → Option Terminal → StepOutcome
 on_not st None = rejects
-on_not st (Some t) = if nat_le (min_precedence st) 3 then on_operand_start t (frames.Operator (pending.Prefix unary.Not) ∷ st) else rejects
+on_not st (Some t) =
+    if nat_le (min_precedence st) (unary_precedence unary.Not)
+    then on_operand_start t (frames.Operator (pending.Prefix unary.Not) ∷ st)
+    else rejects
 
 -- after a word
 abbrev pub after_word : List ℕ → List Frame → Option Terminal → StepOutcome
 after_word w st None = if bytes_eq w not_word then rejects else on_constant_word (constant_word w) st None
-after_word w st (Some t) = if is_symbol symbols.Dot t then continues (states.AfterDot w) st else (if bytes_eq w not_word then on_not st (Some t) else (if is_symbol symbols.OpenParen t then continues states.AfterCallParen (frames.Call w [] ∷ st) else on_constant_word (constant_word w) st (Some t)))
+after_word w st (Some t) =
+    if is_symbol symbols.Dot t then continues (states.AfterDot w) st
+    else (if bytes_eq w not_word then on_not st (Some t)
+    else (if is_symbol symbols.OpenParen t then continues states.AfterCallParen (frames.Call w [] ∷ st)
+    else on_constant_word (constant_word w) st (Some t)))
 
 -- after a word and a `.`
 abbrev pub after_dot : List ℕ → List Frame → Terminal → StepOutcome
@@ -174,7 +201,8 @@ unfoldable pub transition : State → List Frame → Option Terminal → StepOut
 transition states.ExpectOperand st None = rejects
 transition states.ExpectOperand st (Some t) = on_operand_start t st
 transition states.AfterCallParen st None = rejects
-transition states.AfterCallParen st (Some t) = if is_symbol symbols.CloseParen t then on_empty_call st else on_operand_start t st
+transition states.AfterCallParen st (Some t) =
+    if is_symbol symbols.CloseParen t then on_empty_call st else on_operand_start t st
 transition (states.AfterWord w) st t = after_word w st t
 transition (states.AfterDot side) st None = rejects
 transition (states.AfterDot side) st (Some t) = after_dot side st t
@@ -204,3 +232,7 @@ outcome_then next ts rejects = Err ts
 unfoldable pub parse_from : State → List Frame → List Terminal → Result (Expr × List Terminal) (List Terminal)
 parse_from s st [] = outcome_at_end (transition s st None)
 parse_from s st (t ∷ ts) = outcome_then (λ s' st'. parse_from s' st' ts) (t ∷ ts) (transition s st (Some t))
+
+-- the first expression of tokens
+abbrev pub parse_first : List Terminal → Result (Expr × List Terminal) (List Terminal)
+parse_first ts = parse_from states.ExpectOperand [] ts

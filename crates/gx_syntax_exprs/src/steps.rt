@@ -189,6 +189,17 @@ fn on_atom(alloc: Global, token: TokenValue<'_>, stack: &mut Stack) -> Result<St
     }
 }
 
+/// A prefix operator at the start of an operand.
+fn on_prefix(stack: &mut Stack, operator: UnaryOp) -> Result<Step, NoMemory>
+    ensures { Steps result stack.new (parser.on_prefix operator stack.old) }
+{
+    if stack.min_precedence() > operator.precedence() {
+        return Ok(Step::Reject);
+    }
+    stack.push(Frame::Operator(Pending::Prefix(operator)))?;
+    Ok(Step::Continue(State::ExpectOperand))
+}
+
 /// The first token of an operand.
 fn on_operand_start(
     alloc: Global,
@@ -201,11 +212,7 @@ fn on_operand_start(
         stack.push(Frame::Paren)?;
         Ok(Step::Continue(State::ExpectOperand))
     } else if token.is(Symbol::Minus) {
-        if stack.min_precedence() > 7 {
-            return Ok(Step::Reject);
-        }
-        stack.push(Frame::Operator(Pending::Prefix(UnaryOp::Neg)))?;
-        Ok(Step::Continue(State::ExpectOperand))
+        on_prefix(stack, UnaryOp::Neg)
     } else {
         on_atom(alloc, token, stack)
     }
@@ -244,7 +251,7 @@ fn on_lone_word(
 fn on_not(alloc: Global, stack: &mut Stack, token: TokenValue<'_>) -> Result<Step, NoMemory>
     ensures { Steps result stack.new (parser.on_not stack.old (next_terminal token.entry)) }
 {
-    if stack.min_precedence() > 3 {
+    if stack.min_precedence() > UnaryOp::Not.precedence() {
         return Ok(Step::Reject);
     }
     stack.push(Frame::Operator(Pending::Prefix(UnaryOp::Not)))?;

@@ -1,5 +1,5 @@
 -- A statement and its view determine each other.
-use Rattle.std.proofs.Common.{◌≡◌, ◌∷◌, refl}
+use Rattle.std.proofs.Common.{refl}
 use Rattle.gx_syntax_tree.specs.Forms.{IsMadeOfItsView, ViewsWhatItIsMadeOf}
 use Rattle.gx_syntax_tree.specs.declared.keyword.CountTarget.TheVariants as counts
 use Rattle.gx_syntax_tree.specs.declared.keyword.PrintTarget.TheVariants as prints

@@ -2,7 +2,7 @@
 --
 -- To add a statement, add its variant of `Stmt`, its keyword, and its lines in `form_of`, `stmt_of`
 -- and `view_of`.
-use Rattle.std.specs.Prelude.{◌≡◌, ℕ, ℤ, Bool, Option, List, codes, refl}
+use Rattle.std.specs.Prelude.{◌≡◌, ℕ, ℤ, Bool, List, codes}
 use Rattle.gx_syntax_tree.specs.declared.constant.ColumnConst.{ColumnConst}
 use Rattle.gx_syntax_tree.specs.declared.constant.Const.{Const}
 use Rattle.gx_syntax_tree.specs.declared.expr.Expr.{Expr}

@@ -1,4 +1,4 @@
--- What is left to unwind gives the same as the whole.
+-- Reducing what remains gives the result for the whole stack.
 use Rattle.std.proofs.Common.{◌≡◌, length}
 use Rattle.gx_syntax_exprs.specs.PrecedenceParser.{reduce}
 use Rattle.gx_syntax_exprs.proofs.stack.reduce.Given as goal

@@ -1,7 +1,7 @@
 -- Each step keeps what remains to be parsed.
 use Rattle.std.proofs.Common.{◌∙◌, sym}
 use Rattle.gx_syntax_exprs.proofs.Expressions.{expression_parsed, expression_refused}
-use Rattle.gx_syntax_exprs.proofs.Turns.{step_continues, step_shortens, step_done, step_rejects}
+use Rattle.gx_syntax_exprs.proofs.StepLemmas.{step_continues, step_shortens, step_done, step_rejects}
 use Rattle.gx_syntax_exprs.proofs.cursor.Cursor.expression.Goals as goal
 
 pub loop-stack-smaller : goal.loop-stack-smaller

@@ -1,4 +1,4 @@
--- The tokens that are left read on to what all of them read.
+-- Parsing goes on from the state to the result for all tokens.
 use Rattle.std.proofs.Common.{◌≡◌, length}
 use Rattle.gx_syntax_exprs.specs.PrecedenceParser.{parse_from}
 use Rattle.gx_syntax_exprs.specs.Expressions.{expression}
