@@ -7,8 +7,8 @@ use Rattle.std.proofs.lemmas.List.Elements.{All-append, All-map, Contains-append
 use Rattle.std.proofs.lemmas.List.FromFn.{get_or-map-range_with_len, length-map-range_with_len}
 use Rattle.std.proofs.lemmas.Nat.{mod_below}
 use Rattle.gx_cuts.specs.Mixing.{mix_of}
-use Rattle.gx_cuts.specs.Grid.{IsSide, IsSpreadOver, side_of}
-use Rattle.gx_cuts.proofs.SideLemmas.{side_of-is}
+use Rattle.gx_cuts.specs.Grid.{IsSide, IsSpreadOver, grid_side}
+use Rattle.gx_cuts.proofs.SideLemmas.{IsSide-grid_side}
 
 -- the partition of the cell in row i and column j
 abbrev cell : ℕ → ℕ → ℕ → ℕ → ℕ
@@ -67,16 +67,16 @@ in_column parts s m i p h =
 side_some : (parts s : ℕ) → 1 ≤ parts → IsSide parts s → 0 < s
 side_some parts s some side = elim (cases_order s 0) [ inl e ↦ absurd (omega (arith, rw e at side.enough)) | inr (inl less) ↦ omega arith | inr (inr more) ↦ more ]
 
-pub spread : (parts : ℕ) (v : ℤ) → 1 ≤ parts → IsSpreadOver parts v (2 * side_of parts - 1)
+pub spread : (parts : ℕ) (v : ℤ) → 1 ≤ parts → IsSpreadOver parts v (2 * grid_side parts - 1)
 spread parts v some =
-    let s : ℕ = side_of parts in
+    let s : ℕ = grid_side parts in
     let m : ℕ = mix_of v % s in
-    let p : 0 < s = side_some parts s some (side_of-is parts some) in
+    let p : 0 < s = side_some parts s some (IsSide-grid_side parts some) in
     let q : m < s = mod_below _ _ p in
     record {
-      found = cross parts s m;
-      few = length-cross parts s m q;
-      below = below-cross parts s m (omega arith);
+      partitions = cross parts s m;
+      at_most = length-cross parts s m q;
+      in_range = below-cross parts s m (omega arith);
       complete = λ src dst n h. elim h [
         | inl e ↦ subst (λ (x : ℤ). Contains (cross parts s m) (cell parts s (mix_of x % s) (mix_of dst % s))) (sym e) (in_row parts s m (mix_of dst % s) (mod_below _ _ p))
         | inr e ↦ subst (λ (x : ℤ). Contains (cross parts s m) (cell parts s (mix_of src % s) (mix_of x % s))) (sym e) (in_column parts s m (mix_of src % s) q (mod_below _ _ p))

@@ -1,4 +1,4 @@
-//! The cuts, and the place of an edge under each.
+//! The cuts, and the place of an edge under each: its partition.
 
 ghost use Rattle.std.specs.Prelude.{◌≡◌, ◌<◌, ◌≤◌, ◌%◌, ◌^◌};
 ghost use Rattle.std.specs.Int.{int_max, int_min};
@@ -7,26 +7,26 @@ ghost use Rattle.gx_cuts.specs.Places.{place_of, random_place};
 use crate::grid::two_d_place;
 use crate::mixing::{mix, part_of, vertex_part};
 
-/// How edges are put into partitions. The first four are those of GraphX's `PartitionStrategy`:
+/// The strategy that places edges in partitions. The first four are those of GraphX's `PartitionStrategy`:
 /// `EdgePartition1D`, `EdgePartition2D`, `RandomVertexCut` and `CanonicalRandomVertexCut`.
 #[derive(Clone, Copy, Debug, PartialEq, Eq)]
 pub enum Cut {
     /// By the source: the edges that leave a vertex are together.
     OneD,
     /// By source and destination on a square grid: the edges at a vertex are in one row and one
-    /// column of it.
+    /// column of the grid.
     TwoD,
     /// By source and destination: the edges from one vertex to another are together.
     Random,
-    /// By the two ends in ascending order: the edges between two vertices are together, whichever
-    /// way they lead.
+    /// By the two ends in ascending order: the edges between two vertices are together, in both
+    /// directions.
     Canonical,
-    /// By the edge's place in its file.
+    /// By the position of the edge in its file.
     Rows,
 }
 
-/// The partition of the edge from `src` to `dst` among `parts` partitions. `ordinal` is the edge's
-/// place in its file, counted from 0.
+/// The partition of the edge from `src` to `dst` among `parts` partitions. `ordinal` is the position
+/// of the edge in its file, counted from 0.
 pub fn place(cut: Cut, parts: u32, src: i64, dst: i64, ordinal: u64) -> u32
     requires { 1 ≤ parts }
     ensures exact { result ≡ place_of cut parts src dst ordinal }

@@ -1,7 +1,8 @@
-//! The square grid of the two-dimensional cut.
+//! The square grid of the two-dimensional cut: the row of an edge is that of its source, the column
+//! that of its destination, and the cells are the partitions, modulo their count.
 
 ghost use Rattle.std.specs.Prelude.{◌≡◌, ◌<◌, ◌≤◌, ◌+◌, ◌-◌, ◌*◌, ◌%◌, ◌^◌};
-ghost use Rattle.gx_cuts.specs.Grid.{IsSide, IsSpreadOver, side_of};
+ghost use Rattle.gx_cuts.specs.Grid.{IsSide, IsSpreadOver, grid_side};
 ghost use Rattle.gx_cuts.specs.Places.{two_d_place as two_d_place_of};
 
 use crate::mixing::{mix, part_of};
@@ -10,7 +11,7 @@ use crate::mixing::{mix, part_of};
 fn side(parts: u32) -> u32
     requires { 1 ≤ parts }
     ensures least { IsSide parts result }
-    ensures exact { result ≡ side_of parts }
+    ensures exact { result ≡ grid_side parts }
     ensures positive { 1 ≤ result }
     ensures small { result ≤ 2 ^ 16 }
 {
@@ -27,10 +28,10 @@ pub(crate) fn two_d_place(parts: u32, src: i64, dst: i64) -> u32
     part_of(parts, mix(src) % side * side + mix(dst) % side)
 }
 
-/// A law of the two-dimensional cut: whatever their other end, the edges at the vertex `v` fall to
-/// at most `2s - 1` partitions, where `s` is the least number whose square is at least `parts`.
+/// A law of the two-dimensional cut: the edges at the vertex `v` are in at most `2s - 1` partitions,
+/// where `s` is the least number whose square is at least `parts`.
 pub fn two_d_bound(parts: u32, v: i64)
     requires { 1 ≤ parts }
-    ensures side { IsSide parts (side_of parts) }
-    ensures spread { IsSpreadOver parts v (2 * side_of parts - 1) }
+    ensures least_side { IsSide parts (grid_side parts) }
+    ensures bounded { IsSpreadOver parts v (2 * grid_side parts - 1) }
 {}

@@ -1,9 +1,9 @@
-//! Cuts: in which partition a vertex or an edge is put.
+//! Cuts: the partition of a vertex, and the partition of an edge under each strategy.
 //!
-//! Each place is a number below the count of partitions, computed from the identifiers of 64 bits
-//! or from an edge's place in its file. Contracts see each function as a definition over whole
-//! numbers, modulo 2^64. The crate stands on the standard library alone; partitions of vertices and
-//! of edges stand on it.
+//! A partition is a number below the count of partitions, computed from identifiers of 64 bits or
+//! from the position of an edge in its file. Contracts give each result by a definition over whole
+//! numbers modulo 2^64. The crate depends on the standard library alone; partitioned vertices and
+//! edges are built on it. It never sees rows, files or the other edges.
 #![tactic(auto)]
 
 mod cut;

@@ -1,9 +1,11 @@
-//! The mixing of identifiers.
+//! Mixes identifiers, so that identifiers near each other fall into different partitions.
+//!
+//! The shifts and the factor decide the partition of every row, so a change moves them all.
 
 ghost use Rattle.std.specs.Prelude.{◌≡◌, ◌<◌, ◌≤◌, ◌%◌};
 ghost use Rattle.gx_cuts.specs.Mixing.{mix_of};
 
-/// Spreads identifiers that are near each other over the numbers of 64 bits. The mixture of 0 is 0.
+/// A hash of `x`: its 64 bits, xor-shifted, multiplied and xor-shifted again. The hash of 0 is 0.
 pub fn mix(x: i64) -> u64
     ensures { result ≡ mix_of x }
 {
@@ -21,7 +23,7 @@ pub fn vertex_part(parts: u32, v: i64) -> u32
     part_of(parts, mix(v))
 }
 
-/// The partition that the number `n` falls to among `parts` partitions.
+/// The number `n` modulo `parts`, as a partition.
 pub(crate) fn part_of(parts: u32, n: u64) -> u32
     requires { 1 ≤ parts }
     ensures exact { result ≡ n % parts }

@@ -1,4 +1,4 @@
-//! Mixtures and places that were computed apart from this crate.
+//! Hashes and places that were computed apart from this crate.
 
 use crate::{Cut, mix, place, two_d_bound, vertex_part};
 

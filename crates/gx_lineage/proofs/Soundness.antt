@@ -8,7 +8,7 @@ use Rattle.gx_lineage.specs.declared.block_id.BlockId.{BlockId}
 use Rattle.gx_lineage.specs.declared.input.Input.{Input}
 use Rattle.gx_lineage.specs.declared.input.Pattern.{Pattern}
 use Rattle.gx_lineage.specs.declared.input.Pattern.TheVariants.{Same, All as EachPart}
-use Rattle.gx_lineage.specs.Lineage.{Lineage, IsAcyclic, IsSound, blocks_read, inputs_of, parts_read}
+use Rattle.gx_lineage.specs.Lineage.{Lineage, IsAcyclic, IsSound, blocks_of_input, block_inputs, parts_of_pattern}
 use Rattle.gx_lineage.specs.Nodes.{Node}
 
 -- what is true of each piece is true of the pieces joined
@@ -24,28 +24,28 @@ All-inputs P (Some n) h = h n refl
 All-inputs P None h = All-nil P
 
 -- the parts that are read are there
-parts_within : (parts part : ℕ) (p : Pattern) → part < parts → All (λ y. y < parts) (parts_read parts part p)
+parts_within : (parts part : ℕ) (p : Pattern) → part < parts → All (λ y. y < parts) (parts_of_pattern parts part p)
 parts_within parts part Same h = All-cons (λ y. y < parts) part [] h (All-nil (λ y. y < parts))
 parts_within parts part EachPart h =
     λ k d in_range. let k_below : k < parts = omega (arith, length-range_with_len 0 parts) in rw get_or-range_with_len (omega arith)
 
 -- the blocks that are read are of earlier nodes
-all_earlier : (l : Lineage) → IsAcyclic l.nodes → (b : BlockId) → All (λ c. c.node.0 < b.node.0) (inputs_of l b)
+all_earlier : (l : Lineage) → IsAcyclic l.nodes → (b : BlockId) → All (λ c. c.node.0 < b.node.0) (block_inputs l b)
 all_earlier l acyclic b =
-    All-flat_map (λ c. c.node.0 < b.node.0) (blocks_read l.parts b.part) _
+    All-flat_map (λ c. c.node.0 < b.node.0) (blocks_of_input l.parts b.part) _
     (λ k d in_range. All-map (λ c. c.node.0 < b.node.0) _ _ (λ j e within. All-inputs (λ x. x.node.0 < b.node.0) (slice_get l.nodes b.node.0) (acyclic b.node.0) k d in_range))
 
 -- the blocks that are read have parts in range
-all_in_range : (l : Lineage) (b : BlockId) → b.part < l.parts → All (λ c. c.part < l.parts) (inputs_of l b)
+all_in_range : (l : Lineage) (b : BlockId) → b.part < l.parts → All (λ c. c.part < l.parts) (block_inputs l b)
 all_in_range l b h =
-    All-flat_map (λ c. c.part < l.parts) (blocks_read l.parts b.part) _
+    All-flat_map (λ c. c.part < l.parts) (blocks_of_input l.parts b.part) _
     (λ k d in_range. All-map (λ c. c.part < l.parts) _ _ (parts_within l.parts b.part _ h))
 
 pub IsSound-from_acyclic : (l : Lineage) → IsAcyclic l.nodes → IsSound l
 IsSound-from_acyclic l acyclic = record {
-  earlier = λ b c h. All-contains (λ c. c.node.0 < b.node.0) (inputs_of l b) c (all_earlier l acyclic b) h;
+  earlier = λ b c h. All-contains (λ c. c.node.0 < b.node.0) (block_inputs l b) c (all_earlier l acyclic b) h;
   blocks = λ b c is h. record {
-    node = let below : c.node.0 < b.node.0 = All-contains (λ c. c.node.0 < b.node.0) (inputs_of l b) c (all_earlier l acyclic b) h in omega (arith, is.node);
-    part = All-contains (λ c. c.part < l.parts) (inputs_of l b) c (all_in_range l b is.part) h;
+    node = let below : c.node.0 < b.node.0 = All-contains (λ c. c.node.0 < b.node.0) (block_inputs l b) c (all_earlier l acyclic b) h in omega (arith, is.node);
+    part = All-contains (λ c. c.part < l.parts) (block_inputs l b) c (all_in_range l b is.part) h;
   };
 }

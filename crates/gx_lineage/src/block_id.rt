@@ -1,8 +1,8 @@
-//! Names of blocks.
+//! Identifiers of blocks.
 
 use crate::NodeId;
 
-/// The name of a block: one part of one node. Blocks are ordered by node, then by part.
+/// The identifier of a block: one part of one node. Blocks are ordered by node, then by part.
 #[derive(Clone, Copy, Debug, PartialEq, Eq, PartialOrd, Ord)]
 pub struct BlockId {
     /// The node.

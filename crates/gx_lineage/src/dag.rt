@@ -1,8 +1,8 @@
 //! The graph of nodes.
 
-ghost use Rattle.std.specs.Prelude.{◌≡◌, ◌<◌, ◌≤◌, ◌++◌, [], All, IfOk, OnErr, length, slice_get, Some, option_map};
+ghost use Rattle.std.specs.Prelude.{ℕ, ◌≡◌, ◌<◌, ◌≤◌, ◌++◌, [], All, IfOk, OnErr, length, slice_get, Some, option_map};
 ghost use Rattle.std.specs.List.{range_with_len};
-ghost use Rattle.gx_lineage.specs.Lineage.{IsBlock, IsSound, blocks_at, blocks_read, inputs_of, with_node};
+ghost use Rattle.gx_lineage.specs.Lineage.{IsBlock, IsSound, KeepsInputs, block_inputs, blocks_at, blocks_of_input, first_nodes, with_node};
 
 use crate::node::Node;
 use crate::{BlockId, Input, NodeId, NodeKind, Pattern};
@@ -31,11 +31,11 @@ impl Model for Dag {
 }
 
 impl Dag {
-    /// A graph of no nodes, whose nodes are to be cut into `parts` parts. It takes no memory; later
+    /// A graph of no nodes, whose nodes will have `parts` parts each. It takes no memory; later
     /// calls take theirs from `alloc`.
     pub fn new(alloc: Global, parts: u32) -> Dag
-        requires some { 1 ≤ parts }
-        requires few { parts ≤ 64 }
+        requires nonzero { 1 ≤ parts }
+        requires within_limit { parts ≤ 64 }
         ensures { result ≡ record { parts = parts; nodes = [] } }
     {
         Dag {
@@ -45,7 +45,7 @@ impl Dag {
         }
     }
 
-    /// The number of nodes. The names of the nodes are the numbers below it.
+    /// The number of nodes. The identifiers of the nodes are the numbers below it.
     pub fn len(&self) -> u64
         ensures count { result ≡ length self.now.nodes }
         ensures sound { IsSound self.now }
@@ -56,13 +56,13 @@ impl Dag {
     /// The number of parts of each node, 1 to 64.
     pub fn parts(&self) -> u32
         ensures count { result ≡ self.now.parts }
-        ensures some { 1 ≤ result }
-        ensures few { result ≤ 64 }
+        ensures nonzero { 1 ≤ result }
+        ensures within_limit { result ≤ 64 }
     {
         self.parts
     }
 
-    /// What the blocks of a node hold.
+    /// What the blocks of a node contain.
     pub fn kind(&self, n: NodeId) -> NodeKind
         requires { n.0 < length self.now.nodes }
         ensures { option_map (λ m. m.kind) (slice_get self.now.nodes n.0) ≡ Some result }
@@ -70,62 +70,78 @@ impl Dag {
         self.nodes[n.0 as usize].kind
     }
 
-    /// Adds a node that is computed from `inputs`, and answers its name.
+    /// Adds a node that is computed from `inputs`, and returns its identifier.
     ///
     /// # Errors
     ///
-    /// `NoMemory` where there is no room for the node. Then the graph is as it was.
+    /// `NoMemory` if there is no room for the node. Then the graph is as it was.
     pub fn add(&mut self, kind: NodeKind, inputs: &[Input]) -> Result<NodeId, NoMemory>
         requires earlier { All (λ x. x.node.0 < length self.old.nodes) inputs.now }
         requires room { length self.old.nodes < 18446744073709551615 }
-        ensures name { IfOk result (λ n. n.0 ≡ length self.old.nodes) }
+        ensures next_id { IfOk result (λ n. n.0 ≡ length self.old.nodes) }
         ensures added { IfOk result (λ n. self.new ≡ with_node self.old kind inputs.now) }
         ensures unchanged { OnErr result (self.new ≡ self.old) }
+        // At one `n` over several calls: `truncate` to `n` undoes them all.
+        ensures nodes_kept { (n : ℕ) → n ≤ length self.old.nodes
+            → first_nodes n self.new ≡ first_nodes n self.old }
+        ensures inputs_kept { KeepsInputs self.old self.new }
     {
-        let name = NodeId(self.nodes.len() as u64);
+        let id = NodeId(self.nodes.len() as u64);
         let inputs = Vec::from_slice(self.alloc, inputs)?;
         self.nodes.push(Node { kind, inputs })?;
-        Ok(name)
+        Ok(id)
     }
 
-    /// The blocks that a block is computed from, input by input: of an input that is read at the
-    /// same part that part, and of one that is read whole its parts from 0 upward.
+    /// Removes the nodes from `len` on. It takes no memory, so that a caller that ran out of memory
+    /// can take back the nodes that it added.
+    pub fn truncate(&mut self, len: u64)
+        requires { len ≤ length self.old.nodes }
+        ensures first { self.new ≡ first_nodes len self.old }
+        ensures inputs_kept { KeepsInputs self.new self.old }
+    {
+        self.nodes.truncate(len as usize);
+    }
+
+    /// The blocks from which a block is computed, input by input: one block of an input of pattern
+    /// `Same`, and all blocks of an input of pattern `All`, from part 0 on.
     ///
     /// # Errors
     ///
-    /// `NoMemory` where there is no room for the list.
+    /// `NoMemory` if there is no room for the list.
     pub fn inputs(&self, b: BlockId) -> Result<Vec<BlockId>, NoMemory>
         requires { IsBlock self.now b }
-        ensures { IfOk result (λ bs. bs.items ≡ inputs_of self.now b) }
+        ensures { IfOk result (λ bs. bs.items ≡ block_inputs self.now b) }
     {
         let mut blocks = Vec::new(self.alloc);
         for input in &self.nodes[b.node.0 as usize].inputs {
-            read_blocks(&mut blocks, self.parts, input, b.part)?;
+            push_input_blocks(&mut blocks, self.parts, input, b.part)?;
         }
         Ok(blocks)
     }
 }
 
-// Adds to `blocks` the blocks of one input that part `own` of a node reads.
-fn read_blocks(
+// Adds to `blocks` the blocks of `input` on which part `part` of a node depends.
+fn push_input_blocks(
     blocks: &mut Vec<BlockId>,
     parts: u32,
     input: &Input,
-    own: u32,
+    part: u32,
 ) -> Result<(), NoMemory>
-    ensures { IfOk result (λ _. blocks.new.items ≡ blocks.old.items ++ blocks_read parts own input.now) }
+    ensures { IfOk result
+        (λ _. blocks.new.items ≡ blocks.old.items ++ blocks_of_input parts part input.now) }
 {
     let node = input.node;
     match input.pattern {
-        Pattern::Same => blocks.push(BlockId { node, part: own })?,
-        Pattern::All => read_all(blocks, parts, node)?,
+        Pattern::Same => blocks.push(BlockId { node, part })?,
+        Pattern::All => push_all_blocks(blocks, parts, node)?,
     }
     Ok(())
 }
 
 // Adds to `blocks` all blocks of a node.
-fn read_all(blocks: &mut Vec<BlockId>, parts: u32, node: NodeId) -> Result<(), NoMemory>
-    ensures { IfOk result (λ _. blocks.new.items ≡ blocks.old.items ++ blocks_at node (range_with_len 0 parts)) }
+fn push_all_blocks(blocks: &mut Vec<BlockId>, parts: u32, node: NodeId) -> Result<(), NoMemory>
+    ensures { IfOk result
+        (λ _. blocks.new.items ≡ blocks.old.items ++ blocks_at node (range_with_len 0 parts)) }
 {
     for part in 0..parts {
         blocks.push(BlockId { node, part })?;

@@ -2,7 +2,7 @@
 
 use crate::NodeId;
 
-/// Which parts of an input a part reads.
+/// The parts of an input from which one part of a node is computed.
 #[derive(Clone, Copy, Debug, PartialEq, Eq)]
 pub enum Pattern {
     /// The part of the same number.
@@ -11,11 +11,11 @@ pub enum Pattern {
     All,
 }
 
-/// A node that another is computed from.
+/// A node from which another is computed.
 #[derive(Clone, Copy, Debug, PartialEq, Eq)]
 pub struct Input {
-    /// The node that is read.
+    /// The input node, added before the node that depends on it.
     pub node: NodeId,
-    /// Which of its parts each part reads.
+    /// Which of its parts each part depends on.
     pub pattern: Pattern,
 }

@@ -1,9 +1,10 @@
-//! Lineage: what is computed from what.
+//! Lineage: which block is computed from which.
 //!
-//! A `Dag` is a graph of nodes, each computed from earlier ones. Every node is cut into the same
-//! number of parts, and one part of one node is a block. Contracts see a `Dag` as its number of
-//! parts and its list of nodes, and cite the blocks that a block is computed from. The crate stands
-//! on `gx_rows`; the machine that computes blocks on workers asks it for their inputs.
+//! A `Dag` is a graph of nodes, each computed from earlier ones. Every node has the same number of
+//! parts, and one part of one node is a block. Contracts see a `Dag` as its number of parts and its
+//! list of nodes, and name the blocks that a block is computed from. The crate depends on `gx_rows`
+//! for `NoMemory` alone. The machine that computes blocks on workers asks it for their inputs; it
+//! never sees rows, workers or schedules.
 #![tactic(auto)]
 
 mod block_id;

@@ -1,4 +1,4 @@
-//! Nodes as a `Dag` holds them.
+//! Nodes as a `Dag` stores them.
 
 use crate::{Input, NodeKind};
 use std::marker::Model;

@@ -1,22 +1,22 @@
 //! Kinds of nodes.
 
-/// What the blocks of a node hold.
+/// What the blocks of a node contain.
 #[derive(Clone, Copy, Debug, PartialEq, Eq)]
 pub enum NodeKind {
     /// Rows of vertices.
     Vertices,
     /// Rows of edges.
     Edges,
-    /// Which rows of vertices each part of the edges reads.
+    /// For each part of the edges, which rows of vertices it needs.
     Route,
-    /// Rows of vertices on their way to the parts that read them.
+    /// Rows of vertices, sent to the parts that need them.
     Ship,
-    /// Rows of vertices beside the edges that read them.
+    /// Rows of edges with the rows of vertices that they need.
     View,
     /// Messages of one part of the edges.
     Sent,
     /// Messages merged at their vertices.
     Gathered,
-    /// The vertices that got a message.
+    /// The vertices that received a message.
     Active,
 }

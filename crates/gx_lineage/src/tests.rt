@@ -1,73 +1,41 @@
-//! A graph with a diamond, read part by part.
+//! A graph of two nodes: the inputs of a block, and the graph truncated to its first node.
 
 use crate::{BlockId, Dag, Input, NodeId, NodeKind, Pattern};
 use gx_rows::NoMemory;
-use std::alloc::Global;
 use std::process::Abort;
 use std::test::Fail;
 
-fn same(node: NodeId) -> Input {
-    Input {
-        node,
-        pattern: Pattern::Same,
-    }
-}
-
-fn all(node: NodeId) -> Input {
-    Input {
-        node,
-        pattern: Pattern::All,
-    }
-}
-
-// Node 3 is computed from nodes 1 and 2, and both of those from node 0.
-fn diamond(rt: &impl Abort, alloc: Global) -> Result<Dag, NoMemory> {
-    let nodes: [(NodeKind, &[Input]); 4] = [
-        (NodeKind::Vertices, &[]),
-        (NodeKind::Ship, &[all(NodeId(0))]),
-        (NodeKind::Active, &[same(NodeId(0))]),
-        (NodeKind::View, &[same(NodeId(2)), all(NodeId(1))]),
-    ];
-    let mut dag = Dag::new(alloc, 2);
-    for (i, (kind, inputs)) in nodes.iter().enumerate() {
-        assert!(rt; inputs.iter().all(|x| x.node.0 < dag.len()), "at {i}");
-        assert!(rt; dag.len() < u64::MAX, "at {i}");
-        let name = dag.add(*kind, inputs)?;
-        assert_eq!(rt; name, NodeId(i as u64), "at {i}");
-        assert_eq!(rt; dag.kind(name), *kind, "at {i}");
-    }
-    Ok(dag)
+fn add(
+    rt: &impl Abort,
+    dag: &mut Dag,
+    kind: NodeKind,
+    inputs: &[Input],
+) -> Result<NodeId, NoMemory> {
+    let len = dag.len();
+    assert!(rt; len < u64::MAX && inputs.iter().all(|x| x.node.0 < len));
+    dag.add(kind, inputs)
 }
 
 #[test]
-fn lists_inputs_part_by_part(rt: HostRuntime) -> Result<(), Fail> {
-    let dag = diamond(&rt, rt.alloc())?;
-    assert_eq!(rt; dag.parts(), 2);
-    assert_eq!(rt; dag.len(), 4);
+fn lists_inputs_and_truncates(rt: HostRuntime) -> Result<(), Fail> {
+    let mut dag = Dag::new(rt.alloc(), 2);
+    let node = add(&rt, &mut dag, NodeKind::Vertices, &[])?;
+    let inputs = [Pattern::Same, Pattern::All].map(|pattern| Input { node, pattern });
+    let view = add(&rt, &mut dag, NodeKind::View, &inputs)?;
+    assert!(rt; view == NodeId(1) && view.0 < dag.len() && 1 < dag.parts());
+    assert_eq!(rt; dag.kind(view), NodeKind::View);
 
-    // A block, and the blocks that it is computed from, each as node and part.
-    let cases: [((u64, u32), &[(u64, u32)]); 8] = [
-        ((0, 0), &[]),
-        ((0, 1), &[]),
-        ((1, 0), &[(0, 0), (0, 1)]),
-        ((1, 1), &[(0, 0), (0, 1)]),
-        ((2, 0), &[(0, 0)]),
-        ((2, 1), &[(0, 1)]),
-        ((3, 0), &[(2, 0), (1, 0), (1, 1)]),
-        ((3, 1), &[(2, 1), (1, 0), (1, 1)]),
-    ];
-    for ((node, part), expected) in cases {
-        assert!(rt; node < dag.len(), "at {node}, {part}");
-        assert!(rt; part < dag.parts(), "at {node}, {part}");
-        let blocks = dag.inputs(BlockId {
-            node: NodeId(node),
-            part,
-        })?;
-        assert_eq!(rt; blocks.len(), expected.len(), "at {node}, {part}");
-        for (block, (node, part)) in blocks.iter().zip(expected) {
-            assert_eq!(rt; block.node, NodeId(*node), "at {node}, {part}");
-            assert_eq!(rt; block.part, *part, "at {node}, {part}");
-        }
+    let blocks = dag.inputs(BlockId {
+        node: view,
+        part: 1,
+    })?;
+    // The part of the same number, and then all parts.
+    assert_eq!(rt; blocks.len(), 3);
+    for (block, part) in blocks.iter().zip([1, 0, 1]) {
+        assert_eq!(rt; *block, BlockId { node, part });
     }
+
+    dag.truncate(1);
+    assert_eq!(rt; dag.len(), 1);
     Ok(())
 }

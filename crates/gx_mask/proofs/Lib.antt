@@ -1,5 +1,6 @@
 mod Counting
-mod Joining
-mod PlaceLemmas
+mod Filling
+mod Pairs
+mod Represents
 mod Searching
 mod Writing

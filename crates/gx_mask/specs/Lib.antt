@@ -1,2 +1,2 @@
-pub mod Truths
-pub mod Words
+pub mod Operations
+pub mod U64s

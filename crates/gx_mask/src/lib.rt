@@ -1,8 +1,9 @@
-//! Masks: which places of a list are chosen.
+//! Masks: which indices of a list are chosen.
 //!
-//! A mask is seen as a list of truth values, one for each place, and is kept in words of 64 bits,
-//! so that masks are joined and searched a word at a time. The crate stands on the rows crate for
-//! want of memory; partitions of vertices and of edges stand on it.
+//! Contracts see a mask as a list of bools, one for each index. It is stored in `u64`s, so that
+//! masks are combined, counted and searched 64 bits at a time. The crate depends on `gx_rows` for
+//! `NoMemory` alone; partitions of vertices and of edges are built on it. It never sees the list
+//! whose indices it chooses.
 #![tactic(auto)]
 
 mod mask;

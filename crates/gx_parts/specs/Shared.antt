@@ -4,5 +4,5 @@ use Rattle.std.specs.Global.{Global}
 use Rattle.std.specs.declared.rc.Rc.{Rc}
 
 -- the values that are shared, in order
-abbrev pub values : {T : Type 0} → List (Rc T Global) → List T
-values rs = map (λ r. r.value) rs
+abbrev pub shared_values : {T : Type 0} → List (Rc T Global) → List T
+shared_values rs = map (λ r. r.value) rs

@@ -1,8 +1,9 @@
-//! Immutable parts: a collection that is cut into numbered parts.
+//! Immutable parts: a collection in numbered partitions.
 //!
-//! Contracts see `Parts` as the list of its parts. The parts are shared and never change: a call that
-//! computes makes new ones, part by part, with a closure that is given the number of the part. The
-//! crate stands on `gx_rows`; partitions of vertices, edges and views are held in it.
+//! Contracts see `Parts` as the list of its parts. The parts are shared and never change. Each call
+//! that computes makes new parts, one by one, with a closure that is given the number of the part
+//! and the part. The crate depends on `gx_rows` for `NoMemory` alone. Partitions of vertices, edges
+//! and views are stored in `Parts`; the crate never sees what is in them.
 #![tactic(auto)]
 
 mod parts;

@@ -1,5 +1,5 @@
-pub mod Forms
+pub mod ExactForms
+pub mod ExactParts
 pub mod LimitLemmas
 pub mod Loops
-pub mod Parts
 pub mod Refusals

@@ -1,173 +1,125 @@
--- The statements: each by the word that it begins with, and then the parts of its spelling.
-use Rattle.std.specs.Prelude.{ℕ, ℤ, Bool, true, if◌then◌else◌, Option, Some, None, Result, List, codes, bytes_eq}
+-- The statements: each is spelled by its keyword, and then by the parts of its form, in text order.
+--
+-- The forms themselves are in specs/Forms.antt of gx_syntax_tree. To add a statement, add it there first; then add its
+-- keyword to specs/Keywords.antt and src/keywords.rt, its function to the file of its family, and its arm to `body` in
+-- src/script.rt. If it has a part of a new kind, see specs/Parts.antt, and give the part a case in `SpellsPart` and
+-- `parse_part`, and in `go_part`, `part_exact`, `is_closed` and `is_closed-stops` of proofs/ExactForms.antt.
+use Rattle.std.specs.Prelude.{ℕ, Bool, true, false, if◌then◌else◌, Result, Err, List}
 use Rattle.gx_syntax_tokens.specs.Terminals.{Terminal}
-use Rattle.gx_syntax_exprs.specs.Grammar.{Spells}
-use Rattle.gx_syntax_exprs.specs.PrecedenceParser.{expression}
+use Rattle.gx_syntax_tokens.specs.declared.symbol.Symbol.{Symbol}
+use Rattle.gx_syntax_tokens.specs.declared.symbol.Symbol.TheVariants as symbols
 use Rattle.gx_syntax_exprs.specs.Combinators.{pure, satisfy, seq, many_while, Empty, Satisfies, Then, Many}
-use Rattle.gx_syntax_tree.specs.declared.constant.Const.{Const}
-use Rattle.gx_syntax_tree.specs.declared.constant.ColumnConst.{ColumnConst}
-use Rattle.gx_syntax_tree.specs.declared.expr.Expr.{Expr}
-use Rattle.gx_syntax_tree.specs.declared.parts.ColumnDecl.{ColumnDecl}
-use Rattle.gx_syntax_tree.specs.declared.parts.ColumnMerge.{ColumnMerge}
-use Rattle.gx_syntax_tree.specs.declared.parts.SendClause.{SendClause}
-use Rattle.gx_syntax_tree.specs.declared.parts.ColumnExpr.{ColumnExpr}
-use Rattle.gx_syntax_tree.specs.declared.stmt.Stmt.{Stmt}
-use Rattle.gx_syntax_tree.specs.declared.stmt.Stmt.TheVariants as stmts
-use Rattle.gx_syntax_tree.specs.declared.words.ActiveWord.{ActiveWord}
-use Rattle.gx_syntax_tree.specs.declared.words.CutWord.{CutWord}
-use Rattle.gx_syntax_tree.specs.declared.words.NeighbourWord.{NeighbourWord}
+use Rattle.gx_syntax_exprs.specs.Expressions.{expression}
+use Rattle.gx_syntax_exprs.specs.Grammar.{Spells}
+use Rattle.gx_syntax_exprs.specs.TokenParsers.{expected_symbol, expected_word, name_value, quoted_value, number_value, keyword_value}
 use Rattle.gx_syntax_tree.specs.Forms.{Part, a_name, a_text, a_number, a_cut, a_neighbour, columns, sets, consts, named, merges, sends, condition, subgraph_filter, oriented, active, print_target, counted, Value, Punctuation, equals, comma, Form, fin, mark, say, part, Values, form_of, stmt_of}
-use Rattle.gx_syntax_stmts.specs.TokenTests.{sign, keyword}
-use Rattle.gx_syntax_stmts.specs.Parts as parts
-use Rattle.gx_syntax_stmts.specs.Parts.{word_value}
 use Rattle.gx_syntax_tree.specs.declared.keyword.StmtKeyword.{StmtKeyword}
 use Rattle.gx_syntax_tree.specs.declared.keyword.StmtKeyword.TheVariants as keywords
-use Rattle.gx_syntax_tree.specs.declared.keyword.PrintTarget.{PrintTarget}
-use Rattle.gx_syntax_tree.specs.declared.keyword.PrintTarget.TheVariants as prints
-use Rattle.gx_syntax_tree.specs.declared.keyword.CountTarget.{CountTarget}
-use Rattle.gx_syntax_tree.specs.declared.keyword.CountTarget.TheVariants as counts
-use Rattle.gx_syntax_stmts.specs.declared.signs.Sign.{Sign}
-use Rattle.gx_syntax_stmts.specs.declared.signs.Sign.TheVariants as signs
-use Rattle.gx_syntax_tree.specs.declared.parts.SubgraphFilter.{SubgraphFilter}
-
-abbrev pub print_target_of : List ℕ → Option PrintTarget
-print_target_of w =
-    if bytes_eq w (codes "vertices") then Some prints.Vertices
-    else if bytes_eq w (codes "edges") then Some prints.Edges
-    else if bytes_eq w (codes "triplets") then Some prints.Triplets
-    else if bytes_eq w (codes "table") then Some prints.Table
-    else None
-
-abbrev pub count_target_of : List ℕ → Option CountTarget
-count_target_of w =
-    if bytes_eq w (codes "vertices") then Some counts.Vertices
-    else if bytes_eq w (codes "edges") then Some counts.Edges
-    else if bytes_eq w (codes "table") then Some counts.Table
-    else None
+use Rattle.gx_syntax_tree.specs.declared.stmt.Stmt.{Stmt}
+use Rattle.gx_syntax_stmts.specs.Keywords.{cut_of, neighbour_of, print_target_of, count_target_of, keyword_of}
+use Rattle.gx_syntax_stmts.specs.Parts as parts
 
 -- the tokens that spell a part
 abbrev pub SpellsPart : (p : Part) → List Terminal → Value p → Type 0
-SpellsPart a_name = Satisfies parts.name_of
-SpellsPart a_text = Satisfies parts.quoted_value
-SpellsPart a_number = Satisfies parts.number_value
-SpellsPart a_cut = Satisfies (word_value parts.cut_of)
-SpellsPart a_neighbour = Satisfies (word_value parts.neighbour_of)
-SpellsPart columns = parts.ParenList parts.SpellsColumn
-SpellsPart sets = parts.ParenList parts.SpellsSet
+SpellsPart a_name = Satisfies name_value
+SpellsPart a_text = Satisfies quoted_value
+SpellsPart a_number = Satisfies number_value
+SpellsPart a_cut = Satisfies (keyword_value cut_of)
+SpellsPart a_neighbour = Satisfies (keyword_value neighbour_of)
+SpellsPart columns = parts.ParenList parts.SpellsColumnDecl
+SpellsPart sets = parts.ParenList parts.SpellsColumnExpr
 SpellsPart consts = parts.ParenList parts.SpellsConst
-SpellsPart named = parts.ParenList parts.SpellsNamed
-SpellsPart merges = parts.ParenList parts.SpellsMerge
-SpellsPart sends = parts.SpellsSends
+SpellsPart named = parts.ParenList parts.SpellsColumnConst
+SpellsPart merges = parts.ParenList parts.SpellsColumnMerge
+SpellsPart sends = parts.SpellsSendClauses
 SpellsPart condition = Spells 1
 SpellsPart subgraph_filter = parts.SpellsSubgraphFilter
 SpellsPart oriented = parts.SpellsOriented
 SpellsPart active = parts.SpellsActive
-SpellsPart print_target = Satisfies (word_value print_target_of)
-SpellsPart counted = Satisfies (word_value count_target_of)
+SpellsPart print_target = Satisfies (keyword_value print_target_of)
+SpellsPart counted = Satisfies (keyword_value count_target_of)
 
--- the reader of a part
+-- the parser of a part
 abbrev pub parse_part : (p : Part) → List Terminal → Result (Value p × List Terminal) (List Terminal)
-parse_part a_name = satisfy parts.name_of
-parse_part a_text = satisfy parts.quoted_value
-parse_part a_number = satisfy parts.number_value
-parse_part a_cut = satisfy (word_value parts.cut_of)
-parse_part a_neighbour = satisfy (word_value parts.neighbour_of)
-parse_part columns = parts.paren_list parts.a_column
-parse_part sets = parts.paren_list parts.a_set
-parse_part consts = parts.paren_list parts.a_const
-parse_part named = parts.paren_list parts.a_named_const
-parse_part merges = parts.paren_list parts.a_merge
-parse_part sends = parts.sends
+parse_part a_name = satisfy name_value
+parse_part a_text = satisfy quoted_value
+parse_part a_number = satisfy number_value
+parse_part a_cut = satisfy (keyword_value cut_of)
+parse_part a_neighbour = satisfy (keyword_value neighbour_of)
+parse_part columns = parts.paren_list parts.column_decl
+parse_part sets = parts.paren_list parts.column_expr
+parse_part consts = parts.paren_list parts.constant
+parse_part named = parts.paren_list parts.column_const
+parse_part merges = parts.paren_list parts.column_merge
+parse_part sends = parts.send_clauses
 parse_part condition = expression
 parse_part subgraph_filter = parts.subgraph_filter
 parse_part oriented = parts.oriented
 parse_part active = parts.active
-parse_part print_target = satisfy (word_value print_target_of)
-parse_part counted = satisfy (word_value count_target_of)
+parse_part print_target = satisfy (keyword_value print_target_of)
+parse_part counted = satisfy (keyword_value count_target_of)
 
--- the symbol of a mark
-abbrev pub sign_of : Punctuation → Sign
-sign_of equals = signs.Assign
-sign_of comma = signs.Comma
+-- the symbol of a punctuation
+abbrev pub symbol_of : Punctuation → Symbol
+symbol_of equals = symbols.Assign
+symbol_of comma = symbols.Comma
 
--- the tokens that spell it
+-- the tokens that spell the parts of a form
 abbrev pub SpellsForm : (f : Form) → List Terminal → Values f → Type 0
 SpellsForm fin = Empty tt
-SpellsForm (mark p f) = Then (Satisfies (sign (sign_of p))) (λ _. SpellsForm f)
-SpellsForm (say w f) = Then (Satisfies (keyword w)) (λ _. SpellsForm f)
+SpellsForm (mark p f) = Then (Satisfies (expected_symbol (symbol_of p))) (λ _. SpellsForm f)
+SpellsForm (say w f) = Then (Satisfies (expected_word w)) (λ _. SpellsForm f)
 SpellsForm (part p f) = Then (SpellsPart p) (λ x. Then (SpellsForm f) (λ y. Empty (x, y)))
 
--- its reader
-abbrev pub parse_form : (f : Form) → List Terminal → Result (Values f × List Terminal) (List Terminal)
-parse_form fin = pure tt
-parse_form (mark p f) = seq (satisfy (sign (sign_of p))) (λ _. parse_form f)
-parse_form (say w f) = seq (satisfy (keyword w)) (λ _. parse_form f)
-parse_form (part p f) = seq (parse_part p) (λ x. seq (parse_form f) (λ y. pure (x, y)))
+-- its parser, which returns what is made of the values
+abbrev pub parse_form : {A : Type 0} → (f : Form) → (Values f → A) → List Terminal → Result (A × List Terminal) (List Terminal)
+parse_form fin make = pure (make tt)
+parse_form (mark p f) make = seq (satisfy (expected_symbol (symbol_of p))) (λ _. parse_form f make)
+parse_form (say w f) make = seq (satisfy (expected_word w)) (λ _. parse_form f make)
+parse_form (part p f) make = seq (parse_part p) (λ x. parse_form f (λ y. make (x, y)))
 
-abbrev pub table_keyword : List ℕ → Option StmtKeyword
-table_keyword w =
-    if bytes_eq w (codes "mapvalues") then Some keywords.MapValues
-    else if bytes_eq w (codes "minus") then Some keywords.Minus
-    else if bytes_eq w (codes "diff") then Some keywords.Diff
-    else if bytes_eq w (codes "innerjoin") then Some keywords.InnerJoin
-    else if bytes_eq w (codes "leftjoin") then Some keywords.LeftJoin
-    else if bytes_eq w (codes "print") then Some keywords.Print
-    else if bytes_eq w (codes "count") then Some keywords.Count
-    else None
-
-abbrev pub message_keyword : List ℕ → Option StmtKeyword
-message_keyword w =
-    if bytes_eq w (codes "aggregate") then Some keywords.Aggregate
-    else if bytes_eq w (codes "indegrees") then Some keywords.InDegrees
-    else if bytes_eq w (codes "outdegrees") then Some keywords.OutDegrees
-    else if bytes_eq w (codes "degrees") then Some keywords.Degrees
-    else if bytes_eq w (codes "neighbours") then Some keywords.Neighbours
-    else if bytes_eq w (codes "pregel") then Some keywords.Pregel
-    else if bytes_eq w (codes "filter") then Some keywords.Filter
-    else table_keyword w
-
-abbrev pub graph_keyword : List ℕ → Option StmtKeyword
-graph_keyword w =
-    if bytes_eq w (codes "subgraph") then Some keywords.Subgraph
-    else if bytes_eq w (codes "mask") then Some keywords.Mask
-    else if bytes_eq w (codes "reverse") then Some keywords.Reverse
-    else if bytes_eq w (codes "groupedges") then Some keywords.GroupEdges
-    else if bytes_eq w (codes "partition") then Some keywords.Partition
-    else if bytes_eq w (codes "joinvertices") then Some keywords.JoinVertices
-    else if bytes_eq w (codes "outerjoin") then Some keywords.OuterJoin
-    else message_keyword w
-
-abbrev pub load_keyword : List ℕ → Option StmtKeyword
-load_keyword w =
-    if bytes_eq w (codes "vertices") then Some keywords.Vertices
-    else if bytes_eq w (codes "edges") then Some keywords.Edges
-    else if bytes_eq w (codes "edgelist") then Some keywords.EdgeList
-    else if bytes_eq w (codes "graph") then Some keywords.Graph
-    else if bytes_eq w (codes "fromedges") then Some keywords.FromEdges
-    else if bytes_eq w (codes "mapvertices") then Some keywords.MapVertices
-    else if bytes_eq w (codes "mapedges") then Some keywords.MapEdges
-    else if bytes_eq w (codes "maptriplets") then Some keywords.MapTriplets
-    else graph_keyword w
-
--- the statement that begins with a word
-abbrev pub keyword_of : List ℕ → Option StmtKeyword
-keyword_of w = load_keyword w
-
--- a statement behind its first word
+-- a statement after its keyword
 abbrev pub SpellsBody : StmtKeyword → List Terminal → Stmt → Type 0
-SpellsBody h = Then (SpellsForm (form_of h)) (λ v. Empty (stmt_of h v))
+SpellsBody k = Then (SpellsForm (form_of k)) (λ v. Empty (stmt_of k v))
+
+-- whether the form of a statement begins with `NAME = SOURCE`
+abbrev pub has_target : StmtKeyword → Bool
+has_target keywords.Vertices = false
+has_target keywords.Edges = false
+has_target keywords.EdgeList = false
+has_target keywords.Print = false
+has_target keywords.Count = false
+has_target _ = true
+
+-- the name and the source
+abbrev pub target : List Terminal → Result ((List ℕ × List ℕ) × List Terminal) (List Terminal)
+target = seq (satisfy name_value) (λ name. seq (satisfy (expected_symbol symbols.Assign)) (λ _. seq (satisfy name_value) (λ source. pure (name, source))))
+
+-- the form without `NAME = SOURCE`
+abbrev pub after_target : Form → Form
+after_target (part p (mark s (part q f))) = f
+after_target _ = fin
+
+-- the rest of a statement after its name and its source; a statement without these is refused
+abbrev pub rest : StmtKeyword → List ℕ → List ℕ → List Terminal → Result (Stmt × List Terminal) (List Terminal)
+rest keywords.Vertices name source ts = Err ts
+rest keywords.Edges name source ts = Err ts
+rest keywords.EdgeList name source ts = Err ts
+rest keywords.Print name source ts = Err ts
+rest keywords.Count name source ts = Err ts
+rest k name source ts = parse_form (after_target (form_of k)) (λ v. stmt_of k (name, (source, v))) ts
 
 unfoldable pub body : StmtKeyword → List Terminal → Result (Stmt × List Terminal) (List Terminal)
-body h = seq (parse_form (form_of h)) (λ v. pure (stmt_of h v))
+body k = if has_target k then seq target (λ t. rest k t.0 t.1) else parse_form (form_of k) (stmt_of k)
 
 -- a statement and its `;`
 abbrev pub SpellsStatement : List Terminal → Stmt → Type 0
-SpellsStatement = Then (Satisfies (word_value keyword_of)) (λ h. Then (SpellsBody h) (λ s. Then (Satisfies (sign signs.Semicolon)) (λ _. Empty s)))
+SpellsStatement = Then (Satisfies (keyword_value keyword_of)) (λ k. Then (SpellsBody k) (λ s. Then (Satisfies (expected_symbol symbols.Semicolon)) (λ _. Empty s)))
 
 unfoldable pub statement : List Terminal → Result (Stmt × List Terminal) (List Terminal)
-statement = seq (satisfy (word_value keyword_of)) (λ h. seq (body h) (λ s. seq (satisfy (sign signs.Semicolon)) (λ _. pure s)))
+statement = seq (satisfy (keyword_value keyword_of)) (λ k. seq (body k) (λ s. seq (satisfy (expected_symbol symbols.Semicolon)) (λ _. pure s)))
 
--- the tokens that spell a script: statements, each with its `;`
+-- a script: statements up to the end of the tokens
 abbrev pub SpellsScript : List Terminal → List Stmt → Type 0
 SpellsScript = Many SpellsStatement
 

@@ -1,5 +1,5 @@
+pub mod Keywords
+pub mod Parts
 pub mod Forms
 pub mod Limits
-pub mod TokenTests
-pub mod Parts
 pub mod Refusals

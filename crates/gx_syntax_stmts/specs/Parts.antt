@@ -1,275 +1,203 @@
--- The parts of statements: their words, and how they are read.
-use Rattle.std.specs.Prelude.{ℕ, ℤ, pos, neg_ℤ, Bool, true, false, if◌then◌else◌, Option, Some, None, Result, List, [], ◌∷◌, codes, bytes_eq}
+-- The parts of statements: the tokens that spell each, and its parser.
+--
+-- Each language (`SpellsX`) has the parser of its words below it (`x`). proofs/ExactParts.antt shows that the parser
+-- parses these words and nothing else. To add a part, define both here, prove that there, and add its case to
+-- specs/Forms.antt.
+use Rattle.std.specs.Prelude.{ℕ, ℤ, pos, neg_ℤ, Bool, true, false, if◌then◌else◌, Option, Some, None, Result, List, [], ◌∷◌, codes}
 use Rattle.gx_rows.specs.declared.value.ValueKind.{ValueKind}
-use Rattle.gx_rows.specs.declared.value.ValueKind.TheVariants as kinds
-use Rattle.gx_syntax_tokens.specs.Terminals.{Terminal, word, number, quoted, symbol}
-use Rattle.gx_syntax_exprs.specs.Grammar.{Spells, fits}
-use Rattle.gx_syntax_exprs.specs.PrecedenceParser.{expression, is_minus}
-use Rattle.gx_syntax_exprs.specs.Combinators.{pure, satisfy, seq, if_next, many_while, Empty, Satisfies, Then, Either, Many}
-use Rattle.gx_syntax_tree.specs.declared.expr.Expr.{Expr}
+use Rattle.gx_syntax_tokens.specs.Terminals.{Terminal, word, number, quoted, symbol, is_symbol}
+use Rattle.gx_syntax_tokens.specs.declared.symbol.Symbol.TheVariants as symbols
+use Rattle.gx_syntax_exprs.specs.Combinators.{pure, satisfy, seq, map_value, if_next, many_while, Empty, Satisfies, Then, Either, Many}
+use Rattle.gx_syntax_exprs.specs.Expressions.{expression}
+use Rattle.gx_syntax_exprs.specs.Grammar.{Spells, fits_i64}
+use Rattle.gx_syntax_exprs.specs.TokenParsers.{is_word, expected_symbol, expected_word, name_value, number_value, keyword_value}
+use Rattle.gx_syntax_tree.specs.declared.constant.ColumnConst.{ColumnConst}
 use Rattle.gx_syntax_tree.specs.declared.constant.Const.{Const}
 use Rattle.gx_syntax_tree.specs.declared.constant.Const.TheVariants as consts
-use Rattle.gx_syntax_tree.specs.declared.constant.ColumnConst.{ColumnConst}
+use Rattle.gx_syntax_tree.specs.declared.expr.Expr.{Expr}
 use Rattle.gx_syntax_tree.specs.declared.parts.ColumnDecl.{ColumnDecl}
 use Rattle.gx_syntax_tree.specs.declared.parts.ColumnExpr.{ColumnExpr}
 use Rattle.gx_syntax_tree.specs.declared.parts.ColumnMerge.{ColumnMerge}
 use Rattle.gx_syntax_tree.specs.declared.parts.SendClause.{SendClause}
+use Rattle.gx_syntax_tree.specs.declared.parts.SubgraphFilter.{SubgraphFilter}
 use Rattle.gx_syntax_tree.specs.declared.words.ActiveWord.{ActiveWord}
 use Rattle.gx_syntax_tree.specs.declared.words.ActiveWord.TheVariants as actives
-use Rattle.gx_syntax_tree.specs.declared.words.CutWord.{CutWord}
-use Rattle.gx_syntax_tree.specs.declared.words.CutWord.TheVariants as cuts
 use Rattle.gx_syntax_tree.specs.declared.words.MergeWord.{MergeWord}
-use Rattle.gx_syntax_tree.specs.declared.words.MergeWord.TheVariants as merges
-use Rattle.gx_syntax_tree.specs.declared.words.NeighbourWord.{NeighbourWord}
-use Rattle.gx_syntax_tree.specs.declared.words.NeighbourWord.TheVariants as neighbours
 use Rattle.gx_syntax_tree.specs.declared.words.SideWord.{SideWord}
-use Rattle.gx_syntax_tree.specs.declared.words.SideWord.TheVariants as sides
-use Rattle.gx_syntax_stmts.specs.TokenTests.{is_sign, is_word, sign, keyword}
-use Rattle.gx_syntax_stmts.specs.declared.signs.Sign.TheVariants as signs
-use Rattle.gx_syntax_stmts.specs.declared.lists.ConstHead.{ConstHead}
-use Rattle.gx_syntax_stmts.specs.declared.lists.ConstHead.TheVariants as const_heads
-use Rattle.gx_syntax_tree.specs.declared.parts.SubgraphFilter.{SubgraphFilter}
+use Rattle.gx_syntax_stmts.specs.Keywords.{kind_of, merge_of, side_of, active_of, truth_of}
 
--- whether the next token passes a test
-abbrev pub is_next : (Terminal → Bool) → List Terminal → Bool
-is_next test [] = false
-is_next test (t ∷ ts) = test t
+-- one word or more: the first of L, the others of M
 
--- one token
+abbrev pub OneOrMore : {A : Type 0} → (List Terminal → A → Type 0) → (List Terminal → A → Type 0) → List Terminal → List A → Type 0
+OneOrMore L M = Then L (λ x. Then (Many M) (λ xs. Empty (x ∷ xs)))
 
-abbrev pub name_of : Terminal → Option (List ℕ)
-name_of (word w) = Some w
-name_of (number n) = None
-name_of (quoted s) = None
-name_of (symbol s) = None
+abbrev pub one_or_more : {A : Type 0} → (List Terminal → Result (A × List Terminal) (List Terminal)) → (Terminal → Bool) → (List Terminal → Result (A × List Terminal) (List Terminal)) → List Terminal → Result (List A × List Terminal) (List Terminal)
+one_or_more p starts q = seq p (λ x. map_value (λ xs. x ∷ xs) (many_while starts q))
 
-abbrev pub quoted_value : Terminal → Option (List ℕ)
-quoted_value (word w) = None
-quoted_value (number n) = None
-quoted_value (quoted s) = Some s
-quoted_value (symbol s) = None
+-- lists: `( [ item { , item } ] )`
 
-abbrev pub number_value : Terminal → Option ℤ
-number_value (word w) = None
-number_value (number n) = if fits n then Some (pos n) else None
-number_value (quoted s) = None
-number_value (symbol s) = None
+abbrev pub CommaItem : {A : Type 0} → (List Terminal → A → Type 0) → List Terminal → A → Type 0
+CommaItem L = Then (Satisfies (expected_symbol symbols.Comma)) (λ _. L)
 
--- a word, by what it means
-abbrev pub word_value : {A : Type 0} → (List ℕ → Option A) → Terminal → Option A
-word_value means (word w) = means w
-word_value means (number n) = None
-word_value means (quoted s) = None
-word_value means (symbol s) = None
+abbrev pub comma_item : {A : Type 0} → (List Terminal → Result (A × List Terminal) (List Terminal)) → List Terminal → Result (A × List Terminal) (List Terminal)
+comma_item p = seq (satisfy (expected_symbol symbols.Comma)) (λ _. p)
 
-abbrev pub kind_of : List ℕ → Option ValueKind
-kind_of w =
-    if bytes_eq w (codes "int") then Some kinds.Int
-    else if bytes_eq w (codes "text") then Some kinds.Text
-    else if bytes_eq w (codes "bool") then Some kinds.Bool
-    else if bytes_eq w (codes "ids") then Some kinds.Ids
-    else None
+unfoldable pub CommaList : {A : Type 0} → (List Terminal → A → Type 0) → List Terminal → List A → Type 0
+CommaList L = OneOrMore L (CommaItem L)
 
-abbrev pub cut_of : List ℕ → Option CutWord
-cut_of w =
-    if bytes_eq w (codes "oned") then Some cuts.OneD
-    else if bytes_eq w (codes "twod") then Some cuts.TwoD
-    else if bytes_eq w (codes "random") then Some cuts.Random
-    else if bytes_eq w (codes "canonical") then Some cuts.Canonical
-    else None
-
-abbrev pub merge_of : List ℕ → Option MergeWord
-merge_of w =
-    if bytes_eq w (codes "sum") then Some merges.Sum
-    else if bytes_eq w (codes "count") then Some merges.Count
-    else if bytes_eq w (codes "min") then Some merges.Min
-    else if bytes_eq w (codes "max") then Some merges.Max
-    else if bytes_eq w (codes "all") then Some merges.All
-    else if bytes_eq w (codes "any") then Some merges.Any
-    else if bytes_eq w (codes "bag") then Some merges.Bag
-    else None
-
-abbrev pub side_of : List ℕ → Option SideWord
-side_of w =
-    if bytes_eq w (codes "src") then Some sides.Src
-    else if bytes_eq w (codes "dst") then Some sides.Dst
-    else None
-
-abbrev pub neighbour_of : List ℕ → Option NeighbourWord
-neighbour_of w =
-    if bytes_eq w (codes "in") then Some neighbours.In
-    else if bytes_eq w (codes "out") then Some neighbours.Out
-    else if bytes_eq w (codes "either") then Some neighbours.Either
-    else None
-
-abbrev pub active_of : List ℕ → Option ActiveWord
-active_of w =
-    if bytes_eq w (codes "out") then Some actives.Out
-    else if bytes_eq w (codes "in") then Some actives.In
-    else if bytes_eq w (codes "either") then Some actives.Either
-    else if bytes_eq w (codes "both") then Some actives.Both
-    else None
-
--- lists: `( [ entry { , entry } ] )`
+unfoldable pub comma_list : {A : Type 0} → (List Terminal → Result (A × List Terminal) (List Terminal)) → List Terminal → Result (List A × List Terminal) (List Terminal)
+comma_list p = one_or_more p (is_symbol symbols.Comma) (comma_item p)
 
 unfoldable pub ParenList : {A : Type 0} → (List Terminal → A → Type 0) → List Terminal → List A → Type 0
-ParenList L = Then (Satisfies (sign signs.OpenParen)) (λ _. Either
-    (Then (Satisfies (sign signs.CloseParen)) (λ _. Empty []))
-    (Then L (λ x. Then (Many (Then (Satisfies (sign signs.Comma)) (λ _. L))) (λ xs. Then (Satisfies (sign signs.CloseParen)) (λ _. Empty (x ∷ xs))))))
-
--- the entries behind the first, each with a comma before it
-unfoldable pub further : {A : Type 0} → (List Terminal → Result (A × List Terminal) (List Terminal)) → List Terminal → Result (List A × List Terminal) (List Terminal)
-further p = many_while (is_sign signs.Comma) (seq (satisfy (sign signs.Comma)) (λ _. p))
+ParenList L = Then (Satisfies (expected_symbol symbols.OpenParen)) (λ _. Either
+    (Then (Satisfies (expected_symbol symbols.CloseParen)) (λ _. Empty []))
+    (Then (CommaList L) (λ xs. Then (Satisfies (expected_symbol symbols.CloseParen)) (λ _. Empty xs))))
 
 unfoldable pub paren_list : {A : Type 0} → (List Terminal → Result (A × List Terminal) (List Terminal)) → List Terminal → Result (List A × List Terminal) (List Terminal)
-paren_list p = seq (satisfy (sign signs.OpenParen)) (λ _. if_next (is_sign signs.CloseParen)
-    (seq (satisfy (sign signs.CloseParen)) (λ _. pure []))
-    (seq p (λ x. seq (further p) (λ xs. seq (satisfy (sign signs.CloseParen)) (λ _. pure (x ∷ xs))))))
+paren_list p = seq (satisfy (expected_symbol symbols.OpenParen)) (λ _. if_next (is_symbol symbols.CloseParen)
+    (seq (satisfy (expected_symbol symbols.CloseParen)) (λ _. pure []))
+    (seq (comma_list p) (λ xs. seq (satisfy (expected_symbol symbols.CloseParen)) (λ _. pure xs))))
 
--- `NAME : entry`
+-- `NAME : item`
 
 unfoldable pub NamedItem : {A B : Type 0} → (List ℕ → A → B) → (List Terminal → A → Type 0) → List Terminal → B → Type 0
-NamedItem make L = Then (Satisfies name_of) (λ name. Then (Satisfies (sign signs.Colon)) (λ _. Then L (λ x. Empty (make name x))))
+NamedItem make L = Then (Satisfies name_value) (λ name. Then (Satisfies (expected_symbol symbols.Colon)) (λ _. Then L (λ x. Empty (make name x))))
 
 unfoldable pub named_item : {A B : Type 0} → (List ℕ → A → B) → (List Terminal → Result (A × List Terminal) (List Terminal)) → List Terminal → Result (B × List Terminal) (List Terminal)
-named_item make p = seq (satisfy name_of) (λ name. seq (satisfy (sign signs.Colon)) (λ _. seq p (λ x. pure (make name x))))
+named_item make p = seq (satisfy name_value) (λ name. seq (satisfy (expected_symbol symbols.Colon)) (λ _. seq p (λ x. pure (make name x))))
 
--- columns
+-- columns: a name with a kind, an expression or a merge
 
-abbrev pub column : List ℕ → ValueKind → ColumnDecl
-column name kind = record { name = name; kind = kind }
+abbrev pub column_decl_of : List ℕ → ValueKind → ColumnDecl
+column_decl_of name kind = record { name = name; kind = kind }
 
-abbrev pub SpellsColumn : List Terminal → ColumnDecl → Type 0
-SpellsColumn = NamedItem column (Satisfies (word_value kind_of))
+abbrev pub SpellsColumnDecl : List Terminal → ColumnDecl → Type 0
+SpellsColumnDecl = NamedItem column_decl_of (Satisfies (keyword_value kind_of))
 
-abbrev pub a_column : List Terminal → Result (ColumnDecl × List Terminal) (List Terminal)
-a_column = named_item column (satisfy (word_value kind_of))
+abbrev pub column_decl : List Terminal → Result (ColumnDecl × List Terminal) (List Terminal)
+column_decl = named_item column_decl_of (satisfy (keyword_value kind_of))
 
-abbrev pub set : List ℕ → Expr → ColumnExpr
-set name value = record { name = name; value = value }
+abbrev pub column_expr_of : List ℕ → Expr → ColumnExpr
+column_expr_of name value = record { name = name; value = value }
 
-abbrev pub SpellsSet : List Terminal → ColumnExpr → Type 0
-SpellsSet = NamedItem set (Spells 1)
+abbrev pub SpellsColumnExpr : List Terminal → ColumnExpr → Type 0
+SpellsColumnExpr = NamedItem column_expr_of (Spells 1)
 
-abbrev pub a_set : List Terminal → Result (ColumnExpr × List Terminal) (List Terminal)
-a_set = named_item set expression
+abbrev pub column_expr : List Terminal → Result (ColumnExpr × List Terminal) (List Terminal)
+column_expr = named_item column_expr_of expression
 
-abbrev pub merge : List ℕ → MergeWord → ColumnMerge
-merge name by = record { name = name; by = by }
+abbrev pub column_merge_of : List ℕ → MergeWord → ColumnMerge
+column_merge_of name by = record { name = name; by = by }
 
-abbrev pub SpellsMerge : List Terminal → ColumnMerge → Type 0
-SpellsMerge = NamedItem merge (Satisfies (word_value merge_of))
+abbrev pub SpellsColumnMerge : List Terminal → ColumnMerge → Type 0
+SpellsColumnMerge = NamedItem column_merge_of (Satisfies (keyword_value merge_of))
 
-abbrev pub a_merge : List Terminal → Result (ColumnMerge × List Terminal) (List Terminal)
-a_merge = named_item merge (satisfy (word_value merge_of))
+abbrev pub column_merge : List Terminal → Result (ColumnMerge × List Terminal) (List Terminal)
+column_merge = named_item column_merge_of (satisfy (keyword_value merge_of))
 
 -- constants: a number, a text, `true`, `false`, `-` and a number, `ids ( )`
-
--- the constant that a word is
-abbrev pub truth_word : List ℕ → Option ConstHead
-truth_word w =
-    if bytes_eq w (codes "true") then Some (const_heads.Whole (consts.Truth true))
-    else if bytes_eq w (codes "false") then Some (const_heads.Whole (consts.Truth false))
-    else if bytes_eq w (codes "ids") then Some const_heads.Ids
-    else None
-
-abbrev pub signed_head : Bool → Option ConstHead
-signed_head true = Some const_heads.Minus
-signed_head false = None
-
-abbrev pub const_head : Terminal → Option ConstHead
-const_head (word w) = truth_word w
-const_head (number n) = if fits n then Some (const_heads.Whole (consts.Number (pos n))) else None
-const_head (quoted s) = Some (const_heads.Whole (consts.Quoted s))
-const_head (symbol s) = signed_head (is_minus (symbol s))
 
 abbrev pub negative : ℤ → Const
 negative n = consts.Number (neg_ℤ n)
 
-abbrev pub ConstTail : ConstHead → List Terminal → Const → Type 0
-ConstTail (const_heads.Whole c) = Empty c
-ConstTail const_heads.Minus = Then (Satisfies number_value) (λ n. Empty (negative n))
-ConstTail const_heads.Ids = Then (Satisfies (sign signs.OpenParen)) (λ _. Then (Satisfies (sign signs.CloseParen)) (λ _. Empty consts.NoIds))
+abbrev pub truth_const : Option Bool → Option Const
+truth_const (Some b) = Some (consts.Truth b)
+truth_const None = None
 
-abbrev pub const_tail : ConstHead → List Terminal → Result (Const × List Terminal) (List Terminal)
-const_tail (const_heads.Whole c) = pure c
-const_tail const_heads.Minus = seq (satisfy number_value) (λ n. pure (negative n))
-const_tail const_heads.Ids = seq (satisfy (sign signs.OpenParen)) (λ _. seq (satisfy (sign signs.CloseParen)) (λ _. pure consts.NoIds))
+-- a constant of one token
+abbrev pub literal_value : Terminal → Option Const
+literal_value (word w) = truth_const (truth_of w)
+literal_value (number n) = if fits_i64 n then Some (consts.Number (pos n)) else None
+literal_value (quoted s) = Some (consts.Quoted s)
+literal_value (symbol s) = None
+
+abbrev pub SpellsNegative : List Terminal → Const → Type 0
+SpellsNegative = Then (Satisfies (expected_symbol symbols.Minus)) (λ _. Then (Satisfies number_value) (λ n. Empty (negative n)))
+
+abbrev pub SpellsNoIds : List Terminal → Const → Type 0
+SpellsNoIds = Then (Satisfies (expected_word (codes "ids"))) (λ _. Then (Satisfies (expected_symbol symbols.OpenParen)) (λ _. Then (Satisfies (expected_symbol symbols.CloseParen)) (λ _. Empty consts.NoIds)))
 
 unfoldable pub SpellsConst : List Terminal → Const → Type 0
-SpellsConst = Then (Satisfies const_head) ConstTail
+SpellsConst = Either SpellsNegative (Either SpellsNoIds (Satisfies literal_value))
 
-unfoldable pub a_const : List Terminal → Result (Const × List Terminal) (List Terminal)
-a_const = seq (satisfy const_head) const_tail
+abbrev pub negative_number : List Terminal → Result (Const × List Terminal) (List Terminal)
+negative_number = seq (satisfy (expected_symbol symbols.Minus)) (λ _. seq (satisfy number_value) (λ n. pure (negative n)))
 
-abbrev pub named_const : List ℕ → Const → ColumnConst
-named_const name value = record { name = name; value = value }
+abbrev pub no_ids : List Terminal → Result (Const × List Terminal) (List Terminal)
+no_ids = seq (satisfy (expected_word (codes "ids"))) (λ _. seq (satisfy (expected_symbol symbols.OpenParen)) (λ _. seq (satisfy (expected_symbol symbols.CloseParen)) (λ _. pure consts.NoIds)))
 
-abbrev pub SpellsNamed : List Terminal → ColumnConst → Type 0
-SpellsNamed = NamedItem named_const SpellsConst
+unfoldable pub constant : List Terminal → Result (Const × List Terminal) (List Terminal)
+constant = if_next (is_symbol symbols.Minus) negative_number (if_next (is_word (codes "ids")) no_ids (satisfy literal_value))
 
-abbrev pub a_named_const : List Terminal → Result (ColumnConst × List Terminal) (List Terminal)
-a_named_const = named_item named_const a_const
+abbrev pub column_const_of : List ℕ → Const → ColumnConst
+column_const_of name value = record { name = name; value = value }
 
--- optional parts
+abbrev pub SpellsColumnConst : List Terminal → ColumnConst → Type 0
+SpellsColumnConst = NamedItem column_const_of SpellsConst
 
-unfoldable pub Optional : {A : Type 0} → (List Terminal → A → Type 0) → List Terminal → Option A → Type 0
-Optional L = Either (Then L (λ x. Empty (Some x))) (Empty None)
+abbrev pub column_const : List Terminal → Result (ColumnConst × List Terminal) (List Terminal)
+column_const = named_item column_const_of constant
 
-unfoldable pub optional : {A : Type 0} → (Terminal → Bool) → (List Terminal → Result (A × List Terminal) (List Terminal)) → List Terminal → Result (Option A × List Terminal) (List Terminal)
-optional starts p = if_next starts (seq p (λ x. pure (Some x))) (pure None)
-
--- an expression behind a word
+-- an expression after a word
 
 unfoldable pub KeywordExpr : List ℕ → List Terminal → Expr → Type 0
-KeywordExpr w = Then (Satisfies (keyword w)) (λ _. Spells 1)
+KeywordExpr w = Then (Satisfies (expected_word w)) (λ _. Spells 1)
 
 unfoldable pub keyword_expr : List ℕ → List Terminal → Result (Expr × List Terminal) (List Terminal)
-keyword_expr w = seq (satisfy (keyword w)) (λ _. expression)
+keyword_expr w = seq (satisfy (expected_word w)) (λ _. expression)
 
--- sends: `to (src | dst) ( [ expr { , expr } ] ) [ when expr ]`
+-- the same, if the word is there
 
-abbrev pub send : SideWord → List Expr → Option Expr → SendClause
-send to values when = record { to = to; values = values; when = when }
+unfoldable pub OptionalExpr : List ℕ → List Terminal → Option Expr → Type 0
+OptionalExpr w = Either (Then (KeywordExpr w) (λ x. Empty (Some x))) (Empty None)
 
-unfoldable pub SpellsSend : List Terminal → SendClause → Type 0
-SpellsSend = Then (Satisfies (keyword (codes "to"))) (λ _. Then (Satisfies (word_value side_of)) (λ to. Then (ParenList (Spells 1)) (λ values. Then (Optional (KeywordExpr (codes "when"))) (λ when. Empty (send to values when)))))
+unfoldable pub optional_expr : List ℕ → List Terminal → Result (Option Expr × List Terminal) (List Terminal)
+optional_expr w = if_next (is_word w) (seq (keyword_expr w) (λ x. pure (Some x))) (pure None)
 
-unfoldable pub a_send : List Terminal → Result (SendClause × List Terminal) (List Terminal)
-a_send = seq (satisfy (keyword (codes "to"))) (λ _. seq (satisfy (word_value side_of)) (λ to. seq (paren_list expression) (λ values. seq (optional (is_word (codes "when")) (keyword_expr (codes "when"))) (λ when. pure (send to values when)))))
+-- send clauses: `to (src | dst) ( [ expr { , expr } ] ) [ when expr ]`, one or more
 
--- one send or more
-unfoldable pub SpellsSends : List Terminal → List SendClause → Type 0
-SpellsSends = Then SpellsSend (λ x. Then (Many SpellsSend) (λ xs. Empty (x ∷ xs)))
+abbrev pub send_clause_of : SideWord → List Expr → Option Expr → SendClause
+send_clause_of to values when = record { to = to; values = values; when = when }
 
-unfoldable pub sends : List Terminal → Result (List SendClause × List Terminal) (List Terminal)
-sends = seq a_send (λ x. seq (many_while (is_word (codes "to")) a_send) (λ xs. pure (x ∷ xs)))
+unfoldable pub SpellsSendClause : List Terminal → SendClause → Type 0
+SpellsSendClause = Then (Satisfies (expected_word (codes "to"))) (λ _. Then (Satisfies (keyword_value side_of)) (λ to. Then (ParenList (Spells 1)) (λ values. Then (OptionalExpr (codes "when")) (λ when. Empty (send_clause_of to values when)))))
 
-abbrev pub filter_of : Option Expr → Option Expr → SubgraphFilter
-filter_of vertices edges = record { vertices = vertices; edges = edges }
+unfoldable pub send_clause : List Terminal → Result (SendClause × List Terminal) (List Terminal)
+send_clause = seq (satisfy (expected_word (codes "to"))) (λ _. seq (satisfy (keyword_value side_of)) (λ to. seq (paren_list expression) (λ values. seq (optional_expr (codes "when")) (λ when. pure (send_clause_of to values when)))))
 
--- the tests of a subgraph: `[ vertices expr ] [ edges expr ]`, at least one
+unfoldable pub SpellsSendClauses : List Terminal → List SendClause → Type 0
+SpellsSendClauses = OneOrMore SpellsSendClause SpellsSendClause
+
+unfoldable pub send_clauses : List Terminal → Result (List SendClause × List Terminal) (List Terminal)
+send_clauses = one_or_more send_clause (is_word (codes "to")) send_clause
+
+-- the filter of a subgraph: `[ vertices expr ] [ edges expr ]`, at least one
+
+abbrev pub subgraph_filter_of : Option Expr → Option Expr → SubgraphFilter
+subgraph_filter_of vertices edges = record { vertices = vertices; edges = edges }
 
 unfoldable pub SpellsSubgraphFilter : List Terminal → SubgraphFilter → Type 0
 SpellsSubgraphFilter = Either
-    (Then (KeywordExpr (codes "vertices")) (λ v. Then (Optional (KeywordExpr (codes "edges"))) (λ e. Empty (filter_of (Some v) e))))
-    (Then (KeywordExpr (codes "edges")) (λ e. Empty (filter_of None (Some e))))
+    (Then (KeywordExpr (codes "vertices")) (λ v. Then (OptionalExpr (codes "edges")) (λ e. Empty (subgraph_filter_of (Some v) e))))
+    (Then (KeywordExpr (codes "edges")) (λ e. Empty (subgraph_filter_of None (Some e))))
 
-unfoldable pub subgraph_filter : List Terminal → Result ((SubgraphFilter) × List Terminal) (List Terminal)
+unfoldable pub subgraph_filter : List Terminal → Result (SubgraphFilter × List Terminal) (List Terminal)
 subgraph_filter = if_next (is_word (codes "vertices"))
-    (seq (keyword_expr (codes "vertices")) (λ v. seq (optional (is_word (codes "edges")) (keyword_expr (codes "edges"))) (λ e. pure (filter_of (Some v) e))))
-    (seq (keyword_expr (codes "edges")) (λ e. pure (filter_of None (Some e))))
+    (seq (keyword_expr (codes "vertices")) (λ v. seq (optional_expr (codes "edges")) (λ e. pure (subgraph_filter_of (Some v) e))))
+    (seq (keyword_expr (codes "edges")) (λ e. pure (subgraph_filter_of None (Some e))))
 
 -- `[ oriented ]`
+
 unfoldable pub SpellsOriented : List Terminal → Bool → Type 0
-SpellsOriented = Either (Then (Satisfies (keyword (codes "oriented"))) (λ _. Empty true)) (Empty false)
+SpellsOriented = Either (Then (Satisfies (expected_word (codes "oriented"))) (λ _. Empty true)) (Empty false)
 
 unfoldable pub oriented : List Terminal → Result (Bool × List Terminal) (List Terminal)
-oriented = if_next (is_word (codes "oriented")) (seq (satisfy (keyword (codes "oriented"))) (λ _. pure true)) (pure false)
+oriented = if_next (is_word (codes "oriented")) (seq (satisfy (expected_word (codes "oriented"))) (λ _. pure true)) (pure false)
 
--- `[ active DIR ]`, which is `active either` where it is left out
+-- `[ active DIRECTION ]`, which is `active either` if it is left out
+
 unfoldable pub SpellsActive : List Terminal → ActiveWord → Type 0
-SpellsActive = Either (Then (Satisfies (keyword (codes "active"))) (λ _. Satisfies (word_value active_of))) (Empty actives.Either)
+SpellsActive = Either (Then (Satisfies (expected_word (codes "active"))) (λ _. Satisfies (keyword_value active_of))) (Empty actives.Either)
 
 unfoldable pub active : List Terminal → Result (ActiveWord × List Terminal) (List Terminal)
-active = if_next (is_word (codes "active")) (seq (satisfy (keyword (codes "active"))) (λ _. satisfy (word_value active_of))) (pure actives.Either)
+active = if_next (is_word (codes "active")) (seq (satisfy (expected_word (codes "active"))) (λ _. satisfy (keyword_value active_of))) (pure actives.Either)

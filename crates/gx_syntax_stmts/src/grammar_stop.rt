@@ -1,11 +1,11 @@
-//! Why tokens are no script.
+//! Why tokens are not a script.
 
-/// Why tokens are no script.
+/// Why tokens are not a script.
 #[derive(Clone, Copy, Debug, PartialEq, Eq)]
 pub enum GrammarStop {
-    /// How many tokens stand before the first one with which no script goes on; all of them, where
-    /// a script goes on but does not end.
+    /// How many tokens precede the first with which no script goes on; all of them, if a script goes
+    /// on but does not end.
     At(usize),
-    /// Want of memory.
+    /// Out of memory.
     NoMemory,
 }

@@ -1,132 +1,202 @@
-//! The words that statements begin with.
+//! The words that name a value.
+//!
+//! Each type implements `Keyword`, by which one word is parsed. specs/Keywords.antt has the words. To
+//! add one, add an arm here and a line there, in the same order.
 
-ghost use Rattle.std.specs.Prelude.{◌≡◌};
-ghost use Rattle.gx_syntax_stmts.specs.Forms as forms;
+ghost use Rattle.std.specs.Prelude.{◌≡◌, ℕ, List, Option};
+ghost use Rattle.gx_syntax_exprs.specs.Combinators.{satisfy};
+ghost use Rattle.gx_syntax_exprs.specs.Parses.{Parses};
+ghost use Rattle.gx_syntax_exprs.specs.TokenParsers as token;
+ghost use Rattle.gx_syntax_stmts.specs.Keywords as words;
 
-use gx_syntax_tree::{CountTarget, PrintTarget, StmtKeyword};
+use gx_rows::ValueKind;
+use gx_syntax_exprs::{Cursor, ParseStop};
+use gx_syntax_tokens::TokenValue;
+use gx_syntax_tree::{
+    ActiveWord, CountTarget, CutWord, MergeWord, NeighbourWord, PrintTarget, SideWord, StmtKeyword,
+};
 
-/// The statement that begins with this word.
-pub(crate) fn keyword_of(word: &str) -> Option<StmtKeyword>
-    ensures { result ≡ forms.load_keyword word.now }
+/// A value that a single word names.
+pub(crate) trait Keyword: Copy {
+    ghost meaning: { List ℕ → Option Self };
+
+    /// The value that a word names; `None` if it names none.
+    fn of_word(word: &str) -> Option<Self>
+        ensures { result ≡ meaning word.now };
+}
+
+/// Parses a word that names a value of the type.
+pub(crate) fn keyword_value<K: Keyword>(cursor: &mut Cursor<'_>) -> Result<K, ParseStop>
+    ensures { Parses result cursor.new (satisfy (token.keyword_value K.meaning) cursor.old) }
 {
-    if word == "vertices" {
-        Some(StmtKeyword::Vertices)
-    } else if word == "edges" {
-        Some(StmtKeyword::Edges)
-    } else if word == "edgelist" {
-        Some(StmtKeyword::EdgeList)
-    } else if word == "graph" {
-        Some(StmtKeyword::Graph)
-    } else if word == "fromedges" {
-        Some(StmtKeyword::FromEdges)
-    } else if word == "mapvertices" {
-        Some(StmtKeyword::MapVertices)
-    } else if word == "mapedges" {
-        Some(StmtKeyword::MapEdges)
-    } else if word == "maptriplets" {
-        Some(StmtKeyword::MapTriplets)
+    if let Some(TokenValue::Word(word)) = cursor.peek()
+        && let Some(value) = K::of_word(word)
+    {
+        cursor.advance();
+        Ok(value)
     } else {
-        graph_keyword(word)
+        Err(ParseStop::Refused)
     }
 }
 
-/// The same for later rows of the list.
-fn graph_keyword(word: &str) -> Option<StmtKeyword>
-    ensures { result ≡ forms.graph_keyword word.now }
-{
-    if word == "subgraph" {
-        Some(StmtKeyword::Subgraph)
-    } else if word == "mask" {
-        Some(StmtKeyword::Mask)
-    } else if word == "reverse" {
-        Some(StmtKeyword::Reverse)
-    } else if word == "groupedges" {
-        Some(StmtKeyword::GroupEdges)
-    } else if word == "partition" {
-        Some(StmtKeyword::Partition)
-    } else if word == "joinvertices" {
-        Some(StmtKeyword::JoinVertices)
-    } else if word == "outerjoin" {
-        Some(StmtKeyword::OuterJoin)
-    } else {
-        message_keyword(word)
+impl Keyword for ValueKind {
+    ghost meaning = { words.kind_of };
+
+    fn of_word(word: &str) -> Option<ValueKind> {
+        match word {
+            "int" => Some(ValueKind::Int),
+            "text" => Some(ValueKind::Text),
+            "bool" => Some(ValueKind::Bool),
+            "ids" => Some(ValueKind::Ids),
+            _ => None,
+        }
     }
 }
 
-/// The same for later rows of the list.
-fn message_keyword(word: &str) -> Option<StmtKeyword>
-    ensures { result ≡ forms.message_keyword word.now }
-{
-    if word == "aggregate" {
-        Some(StmtKeyword::Aggregate)
-    } else if word == "indegrees" {
-        Some(StmtKeyword::InDegrees)
-    } else if word == "outdegrees" {
-        Some(StmtKeyword::OutDegrees)
-    } else if word == "degrees" {
-        Some(StmtKeyword::Degrees)
-    } else if word == "neighbours" {
-        Some(StmtKeyword::Neighbours)
-    } else if word == "pregel" {
-        Some(StmtKeyword::Pregel)
-    } else if word == "filter" {
-        Some(StmtKeyword::Filter)
-    } else {
-        table_keyword(word)
+impl Keyword for CutWord {
+    ghost meaning = { words.cut_of };
+
+    fn of_word(word: &str) -> Option<CutWord> {
+        match word {
+            "oned" => Some(CutWord::OneD),
+            "twod" => Some(CutWord::TwoD),
+            "random" => Some(CutWord::Random),
+            "canonical" => Some(CutWord::Canonical),
+            _ => None,
+        }
     }
 }
 
-/// The same for the last rows of the list.
-fn table_keyword(word: &str) -> Option<StmtKeyword>
-    ensures { result ≡ forms.table_keyword word.now }
-{
-    if word == "mapvalues" {
-        Some(StmtKeyword::MapValues)
-    } else if word == "minus" {
-        Some(StmtKeyword::Minus)
-    } else if word == "diff" {
-        Some(StmtKeyword::Diff)
-    } else if word == "innerjoin" {
-        Some(StmtKeyword::InnerJoin)
-    } else if word == "leftjoin" {
-        Some(StmtKeyword::LeftJoin)
-    } else if word == "print" {
-        Some(StmtKeyword::Print)
-    } else if word == "count" {
-        Some(StmtKeyword::Count)
-    } else {
-        None
+impl Keyword for MergeWord {
+    ghost meaning = { words.merge_of };
+
+    fn of_word(word: &str) -> Option<MergeWord> {
+        match word {
+            "sum" => Some(MergeWord::Sum),
+            "count" => Some(MergeWord::Count),
+            "min" => Some(MergeWord::Min),
+            "max" => Some(MergeWord::Max),
+            "all" => Some(MergeWord::All),
+            "any" => Some(MergeWord::Any),
+            "bag" => Some(MergeWord::Bag),
+            _ => None,
+        }
     }
 }
 
-/// What a word of `print` names.
-pub(crate) fn print_target_of(word: &str) -> Option<PrintTarget>
-    ensures { result ≡ forms.print_target_of word.now }
-{
-    if word == "vertices" {
-        Some(PrintTarget::Vertices)
-    } else if word == "edges" {
-        Some(PrintTarget::Edges)
-    } else if word == "triplets" {
-        Some(PrintTarget::Triplets)
-    } else if word == "table" {
-        Some(PrintTarget::Table)
-    } else {
-        None
+impl Keyword for SideWord {
+    ghost meaning = { words.side_of };
+
+    fn of_word(word: &str) -> Option<SideWord> {
+        match word {
+            "src" => Some(SideWord::Src),
+            "dst" => Some(SideWord::Dst),
+            _ => None,
+        }
     }
 }
 
-/// What a word of `count` names.
-pub(crate) fn count_target_of(word: &str) -> Option<CountTarget>
-    ensures { result ≡ forms.count_target_of word.now }
-{
-    if word == "vertices" {
-        Some(CountTarget::Vertices)
-    } else if word == "edges" {
-        Some(CountTarget::Edges)
-    } else if word == "table" {
-        Some(CountTarget::Table)
-    } else {
-        None
+impl Keyword for NeighbourWord {
+    ghost meaning = { words.neighbour_of };
+
+    fn of_word(word: &str) -> Option<NeighbourWord> {
+        match word {
+            "in" => Some(NeighbourWord::In),
+            "out" => Some(NeighbourWord::Out),
+            "either" => Some(NeighbourWord::Either),
+            _ => None,
+        }
+    }
+}
+
+impl Keyword for ActiveWord {
+    ghost meaning = { words.active_of };
+
+    fn of_word(word: &str) -> Option<ActiveWord> {
+        match word {
+            "out" => Some(ActiveWord::Out),
+            "in" => Some(ActiveWord::In),
+            "either" => Some(ActiveWord::Either),
+            "both" => Some(ActiveWord::Both),
+            _ => None,
+        }
+    }
+}
+
+impl Keyword for PrintTarget {
+    ghost meaning = { words.print_target_of };
+
+    fn of_word(word: &str) -> Option<PrintTarget> {
+        match word {
+            "vertices" => Some(PrintTarget::Vertices),
+            "edges" => Some(PrintTarget::Edges),
+            "triplets" => Some(PrintTarget::Triplets),
+            "table" => Some(PrintTarget::Table),
+            _ => None,
+        }
+    }
+}
+
+impl Keyword for CountTarget {
+    ghost meaning = { words.count_target_of };
+
+    fn of_word(word: &str) -> Option<CountTarget> {
+        match word {
+            "vertices" => Some(CountTarget::Vertices),
+            "edges" => Some(CountTarget::Edges),
+            "table" => Some(CountTarget::Table),
+            _ => None,
+        }
+    }
+}
+
+impl Keyword for StmtKeyword {
+    ghost meaning = { words.keyword_of };
+
+    fn of_word(word: &str) -> Option<StmtKeyword> {
+        match word {
+            "vertices" => Some(StmtKeyword::Vertices),
+            "edges" => Some(StmtKeyword::Edges),
+            "edgelist" => Some(StmtKeyword::EdgeList),
+            "graph" => Some(StmtKeyword::Graph),
+            "fromedges" => Some(StmtKeyword::FromEdges),
+            "reverse" => Some(StmtKeyword::Reverse),
+            "mask" => Some(StmtKeyword::Mask),
+            "subgraph" => Some(StmtKeyword::Subgraph),
+            "groupedges" => Some(StmtKeyword::GroupEdges),
+            "partition" => Some(StmtKeyword::Partition),
+            "mapvertices" => Some(StmtKeyword::MapVertices),
+            "mapedges" => Some(StmtKeyword::MapEdges),
+            "maptriplets" => Some(StmtKeyword::MapTriplets),
+            "joinvertices" => Some(StmtKeyword::JoinVertices),
+            "outerjoin" => Some(StmtKeyword::OuterJoin),
+            "aggregate" => Some(StmtKeyword::Aggregate),
+            "indegrees" => Some(StmtKeyword::InDegrees),
+            "outdegrees" => Some(StmtKeyword::OutDegrees),
+            "degrees" => Some(StmtKeyword::Degrees),
+            "neighbours" => Some(StmtKeyword::Neighbours),
+            "pregel" => Some(StmtKeyword::Pregel),
+            "filter" => Some(StmtKeyword::Filter),
+            "mapvalues" => Some(StmtKeyword::MapValues),
+            "minus" => Some(StmtKeyword::Minus),
+            "diff" => Some(StmtKeyword::Diff),
+            "innerjoin" => Some(StmtKeyword::InnerJoin),
+            "leftjoin" => Some(StmtKeyword::LeftJoin),
+            "print" => Some(StmtKeyword::Print),
+            "count" => Some(StmtKeyword::Count),
+            _ => None,
+        }
+    }
+}
+
+impl Keyword for bool {
+    ghost meaning = { words.truth_of };
+
+    fn of_word(word: &str) -> Option<bool> {
+        match word {
+            "true" => Some(true),
+            "false" => Some(false),
+            _ => None,
+        }
     }
 }

@@ -1,31 +1,28 @@
-//! The grammar of statements and scripts, and the reader of scripts.
+//! The grammar of statements and scripts, and its parser.
 //!
-//! `specs/Forms.antt` says by which parts each statement is spelled; `specs/Refusals.antt` says where
-//! tokens are refused that spell no script. The crate stands on the expressions of `gx_grammar`;
-//! `gx_syntax` reads texts by it.
+//! The tokens of a script become its syntax tree. specs/Forms.antt says which tokens spell each
+//! statement, and specs/Refusals.antt what is returned for tokens that spell no script. Contracts see
+//! tokens without their offsets. The crate depends on the tree and on the parser of expressions; it
+//! never sees the text of a script, and checks no types. `gx_syntax` calls it for whole texts.
 #![tactic(auto)]
 
-mod cursor;
-mod lists;
+mod actions;
 mod grammar_stop;
+mod graphs;
+mod joins;
 mod keywords;
 mod laws;
 mod limit;
+mod lists;
 mod loads;
 mod maps;
-mod read;
-mod rounds;
+mod messages;
+mod parts;
+mod repetition;
 mod script;
-mod sends;
-mod signs;
 mod tables;
-mod words;
 
-pub use lists::ConstHead;
 pub use grammar_stop::GrammarStop;
-
 pub use laws::scripts_are_unique;
-pub use limit::{MOST_TOKENS, len_within_limit};
-pub use read::parse_script;
-
-pub use signs::Sign;
+pub use limit::len_within_limit;
+pub use script::parse_script;

@@ -1,199 +1,163 @@
-//! Entries of lists, and lists.
+//! Lists in parentheses, and their items.
 
-ghost use Rattle.std.specs.Prelude.{◌≡◌, ◌∷◌, List, Result};
-ghost use Rattle.gx_syntax_tokens.specs.Terminals.{Terminal};
-ghost use Rattle.gx_syntax_exprs.specs.Parses.{Parses, terminals_of};
-ghost use Rattle.gx_syntax_exprs.specs.PrecedenceParser as reading;
-ghost use Rattle.gx_syntax_exprs.specs.Combinators.{map_value, satisfy, seq};
-ghost use Rattle.gx_syntax_stmts.specs.TokenTests as marks;
+ghost use Rattle.std.specs.Prelude.{◌≡◌, List, Result};
+ghost use Rattle.gx_syntax_tokens.specs.Terminals.{Terminal, is_symbol};
+ghost use Rattle.gx_syntax_tokens.specs.declared.symbol.Symbol.TheVariants as symbols;
+ghost use Rattle.gx_syntax_exprs.specs.Combinators.{satisfy};
+ghost use Rattle.gx_syntax_exprs.specs.Expressions.{expression};
+ghost use Rattle.gx_syntax_exprs.specs.Parses.{Parses};
 ghost use Rattle.gx_syntax_stmts.specs.Parts as parts;
-ghost use Rattle.gx_syntax_stmts.specs.declared.signs.Sign.TheVariants as signs;
 
-use crate::cursor::Cursor;
-use crate::signs::Sign;
-use gx_syntax_exprs::{ParseStop, is_minus};
+use crate::keywords::keyword_value;
+use crate::repetition::{Repeated, many};
+use gx_syntax_exprs::{Cursor, ParseStop};
+use gx_syntax_tokens::{Symbol, TokenValue};
 use gx_syntax_tree::{ColumnConst, ColumnDecl, ColumnExpr, ColumnMerge, Const, Expr};
-use gx_syntax_tokens::{TokenValue, unescape};
 use sqlite_items::Items;
 use std::alloc::Global;
+use std::marker::PhantomData;
 
-/// An entry of a list in parentheses.
+/// An item of a list in parentheses.
 pub(crate) trait ListItem: Drop {
-    ghost reads: { List Terminal → Result (Self × List Terminal) (List Terminal) };
+    ghost parsed: { List Terminal → Result (Self × List Terminal) (List Terminal) };
 
-    /// Reads one entry.
-    fn read(cursor: &mut Cursor<'_>, alloc: Global) -> Result<Self, ParseStop>
-        ensures { Parses result (terminals_of cursor.new.rest.now) (reads (terminals_of cursor.old.rest.now)) };
+    /// Parses one item.
+    fn parse(cursor: &mut Cursor<'_>, alloc: Global) -> Result<Self, ParseStop>
+        ensures { Parses result cursor.new (parsed cursor.old) };
 }
 
 impl ListItem for Expr {
-    ghost reads = { reading.expression };
+    ghost parsed = { expression };
 
-    fn read(cursor: &mut Cursor<'_>, alloc: Global) -> Result<Expr, ParseStop> {
+    fn parse(cursor: &mut Cursor<'_>, alloc: Global) -> Result<Expr, ParseStop> {
         cursor.expression(alloc)
     }
 }
 
 impl ListItem for ColumnDecl {
-    ghost reads = { parts.a_column };
+    ghost parsed = { parts.column_decl };
 
     #[tactic(auto, unfolding(crate::specs::Parts::named_item))]
-    fn read(cursor: &mut Cursor<'_>, alloc: Global) -> Result<ColumnDecl, ParseStop> {
+    fn parse(cursor: &mut Cursor<'_>, alloc: Global) -> Result<ColumnDecl, ParseStop> {
         let name = cursor.name(alloc)?;
-        cursor.sign(Sign::Colon)?;
-        let kind = cursor.kind()?;
+        cursor.symbol(Symbol::Colon)?;
+        let kind = keyword_value(cursor)?;
         Ok(ColumnDecl { name, kind })
     }
 }
 
 impl ListItem for ColumnExpr {
-    ghost reads = { parts.a_set };
+    ghost parsed = { parts.column_expr };
 
     #[tactic(auto, unfolding(crate::specs::Parts::named_item))]
-    fn read(cursor: &mut Cursor<'_>, alloc: Global) -> Result<ColumnExpr, ParseStop> {
+    fn parse(cursor: &mut Cursor<'_>, alloc: Global) -> Result<ColumnExpr, ParseStop> {
         let name = cursor.name(alloc)?;
-        cursor.sign(Sign::Colon)?;
+        cursor.symbol(Symbol::Colon)?;
         let value = cursor.expression(alloc)?;
         Ok(ColumnExpr { name, value })
     }
 }
 
 impl ListItem for ColumnMerge {
-    ghost reads = { parts.a_merge };
+    ghost parsed = { parts.column_merge };
 
     #[tactic(auto, unfolding(crate::specs::Parts::named_item))]
-    fn read(cursor: &mut Cursor<'_>, alloc: Global) -> Result<ColumnMerge, ParseStop> {
+    fn parse(cursor: &mut Cursor<'_>, alloc: Global) -> Result<ColumnMerge, ParseStop> {
         let name = cursor.name(alloc)?;
-        cursor.sign(Sign::Colon)?;
-        let by = cursor.merge_word()?;
+        cursor.symbol(Symbol::Colon)?;
+        let by = keyword_value(cursor)?;
         Ok(ColumnMerge { name, by })
     }
 }
 
-impl ListItem for Const {
-    ghost reads = { parts.a_const };
-
-    #[tactic(auto, unfolding(crate::specs::Parts::a_const))]
-    fn read(cursor: &mut Cursor<'_>, alloc: Global) -> Result<Const, ParseStop> {
-        match cursor.const_head(alloc)? {
-            ConstHead::Whole(value) => Ok(value),
-            ConstHead::Minus => {
-                let n = cursor.number()?;
-                Ok(Const::Number(-n))
-            }
-            ConstHead::Ids => {
-                cursor.sign(Sign::OpenParen)?;
-                cursor.sign(Sign::CloseParen)?;
-                Ok(Const::NoIds)
-            }
-        }
-    }
-}
-
 impl ListItem for ColumnConst {
-    ghost reads = { parts.a_named_const };
+    ghost parsed = { parts.column_const };
 
     #[tactic(auto, unfolding(crate::specs::Parts::named_item))]
-    fn read(cursor: &mut Cursor<'_>, alloc: Global) -> Result<ColumnConst, ParseStop> {
+    fn parse(cursor: &mut Cursor<'_>, alloc: Global) -> Result<ColumnConst, ParseStop> {
         let name = cursor.name(alloc)?;
-        cursor.sign(Sign::Colon)?;
-        let value = Const::read(cursor, alloc)?;
+        cursor.symbol(Symbol::Colon)?;
+        let value = Const::parse(cursor, alloc)?;
         Ok(ColumnConst { name, value })
     }
 }
 
-/// How a constant begins.
-#[derive(Drop)]
-pub enum ConstHead {
-    /// It is whole.
-    Whole(Const),
-    /// A number follows.
-    Minus,
-    /// Two parentheses follow.
-    Ids,
+impl ListItem for Const {
+    ghost parsed = { parts.constant };
+
+    #[tactic(auto, unfolding(crate::specs::Parts::constant))]
+    fn parse(cursor: &mut Cursor<'_>, alloc: Global) -> Result<Const, ParseStop> {
+        if cursor.is_symbol_next(Symbol::Minus) {
+            cursor.symbol(Symbol::Minus)?;
+            let n = cursor.number()?;
+            Ok(Const::Number(-n))
+        } else if cursor.is_word_next("ids") {
+            cursor.keyword("ids")?;
+            cursor.symbol(Symbol::OpenParen)?;
+            cursor.symbol(Symbol::CloseParen)?;
+            Ok(Const::NoIds)
+        } else {
+            literal(cursor, alloc)
+        }
+    }
 }
 
-/// The constant that begins with this word.
-fn truth_word(word: &str) -> Option<ConstHead>
-    ensures { result ≡ parts.truth_word word.now }
+/// Parses a constant of one token.
+fn literal(cursor: &mut Cursor<'_>, alloc: Global) -> Result<Const, ParseStop>
+    ensures { Parses result cursor.new (satisfy parts.literal_value cursor.old) }
 {
-    if word == "true" {
-        Some(ConstHead::Whole(Const::Truth(true)))
-    } else if word == "false" {
-        Some(ConstHead::Whole(Const::Truth(false)))
-    } else if word == "ids" {
-        Some(ConstHead::Ids)
-    } else {
-        None
+    match cursor.peek() {
+        Some(TokenValue::Word(_)) => Ok(Const::Truth(keyword_value(cursor)?)),
+        Some(TokenValue::Quoted(_)) => Ok(Const::Quoted(cursor.quoted(alloc)?)),
+        _ => Ok(Const::Number(cursor.number()?)),
     }
 }
 
-impl<'a> Cursor<'a> {
-    /// Reads the first token of a constant.
-    fn const_head(&mut self, alloc: Global) -> Result<ConstHead, ParseStop>
-        ensures { Parses result (terminals_of self.new.rest.now) (satisfy parts.const_head (terminals_of self.old.rest.now)) }
-    {
-        let [placed, others @ ..] = self.rest else {
-            return Err(ParseStop::Refused);
-        };
-        let head = match placed.value {
-            TokenValue::Word(word) => truth_word(word),
-            TokenValue::Number(n) if n < 9_223_372_036_854_775_808 => {
-                Some(ConstHead::Whole(Const::Number(n as i64)))
-            }
-            TokenValue::Number(_) => None,
-            TokenValue::Quoted(raw) => Some(ConstHead::Whole(Const::Quoted(unescape(alloc, raw)?))),
-            TokenValue::Symbol(_) if is_minus(placed.value) => Some(ConstHead::Minus),
-            TokenValue::Symbol(_) => None,
-        };
-        let Some(head) = head else {
-            return Err(ParseStop::Refused);
-        };
-        self.rest = others;
-        Ok(head)
+/// One more item, after a comma.
+struct CommaItem<E>(PhantomData<E>);
+
+impl<E: ListItem> Repeated for CommaItem<E> {
+    type Item = E;
+
+    ghost starts = { is_symbol symbols.Comma };
+
+    ghost parsed = { parts.comma_item E.parsed };
+
+    fn is_next(cursor: &Cursor<'_>) -> bool {
+        cursor.is_symbol_next(Symbol::Comma)
     }
 
-    /// Reads a comma and an entry.
-    fn next_entry<E: ListItem>(&mut self, alloc: Global) -> Result<E, ParseStop>
-        ensures { Parses result (terminals_of self.new.rest.now) (seq (satisfy (marks.sign signs.Comma)) (λ _. E.reads) (terminals_of self.old.rest.now)) }
-    {
-        self.sign(Sign::Comma)?;
-        E::read(self, alloc)
+    fn parse(cursor: &mut Cursor<'_>, alloc: Global) -> Result<E, ParseStop> {
+        cursor.symbol(Symbol::Comma)?;
+        E::parse(cursor, alloc)
     }
+}
 
-    /// Reads the entries behind the first, each with a comma before it.
-    fn further<E: ListItem>(&mut self, alloc: Global, first: E) -> Result<Items<E>, ParseStop>
-        ensures { Parses result (terminals_of self.new.rest.now) (map_value (λ xs. first ∷ xs) (parts.further E.reads) (terminals_of self.old.rest.now)) }
-    {
-        let mut entries = Items::new(alloc);
-        entries.push(first)?;
-        // There are fewer entries than tokens.
-        let most = self.rest.len() + 1;
-        'entries: for _ in 0..most {
-            if !self.is_sign_next(Sign::Comma) {
-                return Ok(entries);
-            }
-            match self.next_entry(alloc) {
-                Ok(entry) => entries.push(entry)?,
-                Err(halt) => return Err(halt),
-            }
-        }
-        Err(ParseStop::Refused)
-    }
+/// Parses items with commas between them, at least one.
+#[tactic(auto, unfolding(crate::specs::Parts::comma_list))]
+fn comma_list<E: ListItem>(cursor: &mut Cursor<'_>, alloc: Global) -> Result<Items<E>, ParseStop>
+    ensures { Parses result cursor.new (parts.comma_list E.parsed cursor.old) }
+{
+    let first = E::parse(cursor, alloc)?;
+    let mut items = Items::new(alloc);
+    items.push(first)?;
+    many::<CommaItem<E>>(cursor, alloc, items)
+}
 
-    /// Reads a list in parentheses.
-    #[tactic(auto, unfolding(crate::specs::Parts::paren_list))]
-    pub(crate) fn paren_list<E: ListItem>(&mut self, alloc: Global) -> Result<Items<E>, ParseStop>
-        ensures { Parses result (terminals_of self.new.rest.now) (parts.paren_list E.reads (terminals_of self.old.rest.now)) }
-    {
-        self.sign(Sign::OpenParen)?;
-        if self.is_sign_next(Sign::CloseParen) {
-            self.sign(Sign::CloseParen)?;
-            return Ok(Items::new(alloc));
-        }
-        let first = E::read(self, alloc)?;
-        let entries = self.further(alloc, first)?;
-        self.sign(Sign::CloseParen)?;
-        Ok(entries)
+/// Parses a list in parentheses.
+#[tactic(auto, unfolding(crate::specs::Parts::paren_list))]
+pub(crate) fn paren_list<E: ListItem>(
+    cursor: &mut Cursor<'_>,
+    alloc: Global,
+) -> Result<Items<E>, ParseStop>
+    ensures { Parses result cursor.new (parts.paren_list E.parsed cursor.old) }
+{
+    cursor.symbol(Symbol::OpenParen)?;
+    if cursor.is_symbol_next(Symbol::CloseParen) {
+        cursor.symbol(Symbol::CloseParen)?;
+        return Ok(Items::new(alloc));
     }
+    let items = comma_list(cursor, alloc)?;
+    cursor.symbol(Symbol::CloseParen)?;
+    Ok(items)
 }

@@ -1,154 +1,114 @@
-//! Statements on tables, and actions.
+//! Statements on tables: `filter`, `mapvalues`, `minus`, `diff`, `innerjoin`, `leftjoin`.
 
-ghost use Rattle.std.specs.Prelude.{◌≡◌};
-ghost use Rattle.gx_syntax_exprs.specs.Parses.{Parses, terminals_of};
-ghost use Rattle.gx_syntax_stmts.specs.Forms as forms;
-ghost use Rattle.gx_syntax_tree.specs.Forms as tree;
+ghost use Rattle.gx_syntax_exprs.specs.Parses.{Parses};
 ghost use Rattle.gx_syntax_tree.specs.declared.keyword.StmtKeyword.TheVariants as keywords;
+ghost use Rattle.gx_syntax_stmts.specs.Forms.{rest};
 
-use crate::cursor::Cursor;
-use gx_syntax_tree::{CountTarget, PrintTarget};
-use crate::signs::Sign;
-use gx_syntax_exprs::ParseStop;
-use gx_syntax_tree::Stmt;
+use crate::lists::paren_list;
 use gx_rows::Text;
+use gx_syntax_exprs::{Cursor, ParseStop};
+use gx_syntax_tokens::Symbol;
+use gx_syntax_tree::Stmt;
 use std::alloc::Global;
 
-fn print_of(what: PrintTarget, name: Text) -> Stmt
-    ensures { result ≡ tree.print_of what name }
+/// Parses the rest of `filter`.
+pub(crate) fn filter(
+    cursor: &mut Cursor<'_>,
+    alloc: Global,
+    name: Text,
+    table: Text,
+) -> Result<Stmt, ParseStop>
+    ensures { Parses result cursor.new (rest keywords.Filter name table cursor.old) }
 {
-    match what {
-        PrintTarget::Vertices => Stmt::PrintVertices { graph: name },
-        PrintTarget::Edges => Stmt::PrintEdges { graph: name },
-        PrintTarget::Triplets => Stmt::PrintTriplets { graph: name },
-        PrintTarget::Table => Stmt::PrintTable { table: name },
-    }
+    cursor.keyword("where")?;
+    let condition = cursor.expression(alloc)?;
+    Ok(Stmt::Filter {
+        name,
+        table,
+        condition,
+    })
 }
 
-fn count_of(what: CountTarget, name: Text) -> Stmt
-    ensures { result ≡ tree.count_of what name }
+/// Parses the rest of `mapvalues`.
+pub(crate) fn map_values(
+    cursor: &mut Cursor<'_>,
+    alloc: Global,
+    name: Text,
+    table: Text,
+) -> Result<Stmt, ParseStop>
+    ensures { Parses result cursor.new (rest keywords.MapValues name table cursor.old) }
 {
-    match what {
-        CountTarget::Vertices => Stmt::CountVertices { graph: name },
-        CountTarget::Edges => Stmt::CountEdges { graph: name },
-        CountTarget::Table => Stmt::CountTable { table: name },
-    }
+    let sets = paren_list(cursor, alloc)?;
+    Ok(Stmt::MapValues { name, table, sets })
 }
 
-impl<'a> Cursor<'a> {
-    /// Reads the parts of `filter`.
-    #[tactic(auto, unfolding(crate::specs::Forms::body))]
-    pub(crate) fn filter(&mut self, alloc: Global) -> Result<Stmt, ParseStop>
-        ensures { Parses result (terminals_of self.new.rest.now) (forms.body keywords.Filter (terminals_of self.old.rest.now)) }
-    {
-        let name = self.name(alloc)?;
-        self.sign(Sign::Assign)?;
-        let table = self.name(alloc)?;
-        self.keyword("where")?;
-        let condition = self.expression(alloc)?;
-        Ok(Stmt::Filter {
-            name,
-            table,
-            condition,
-        })
-    }
+/// Parses the rest of `minus`.
+pub(crate) fn minus(
+    cursor: &mut Cursor<'_>,
+    alloc: Global,
+    name: Text,
+    table: Text,
+) -> Result<Stmt, ParseStop>
+    ensures { Parses result cursor.new (rest keywords.Minus name table cursor.old) }
+{
+    cursor.symbol(Symbol::Comma)?;
+    let other = cursor.name(alloc)?;
+    Ok(Stmt::Minus { name, table, other })
+}
 
-    /// Reads the parts of `mapvalues`.
-    #[tactic(auto, unfolding(crate::specs::Forms::body))]
-    pub(crate) fn map_values(&mut self, alloc: Global) -> Result<Stmt, ParseStop>
-        ensures { Parses result (terminals_of self.new.rest.now) (forms.body keywords.MapValues (terminals_of self.old.rest.now)) }
-    {
-        let name = self.name(alloc)?;
-        self.sign(Sign::Assign)?;
-        let table = self.name(alloc)?;
-        let sets = self.paren_list(alloc)?;
-        Ok(Stmt::MapValues { name, table, sets })
-    }
+/// Parses the rest of `diff`.
+pub(crate) fn diff(
+    cursor: &mut Cursor<'_>,
+    alloc: Global,
+    name: Text,
+    table: Text,
+) -> Result<Stmt, ParseStop>
+    ensures { Parses result cursor.new (rest keywords.Diff name table cursor.old) }
+{
+    cursor.symbol(Symbol::Comma)?;
+    let other = cursor.name(alloc)?;
+    Ok(Stmt::Diff { name, table, other })
+}
 
-    /// Reads the parts of `minus`.
-    #[tactic(auto, unfolding(crate::specs::Forms::body))]
-    pub(crate) fn minus(&mut self, alloc: Global) -> Result<Stmt, ParseStop>
-        ensures { Parses result (terminals_of self.new.rest.now) (forms.body keywords.Minus (terminals_of self.old.rest.now)) }
-    {
-        let name = self.name(alloc)?;
-        self.sign(Sign::Assign)?;
-        let table = self.name(alloc)?;
-        self.sign(Sign::Comma)?;
-        let other = self.name(alloc)?;
-        Ok(Stmt::Minus { name, table, other })
-    }
+/// Parses the rest of `innerjoin`.
+pub(crate) fn inner_join(
+    cursor: &mut Cursor<'_>,
+    alloc: Global,
+    name: Text,
+    table: Text,
+) -> Result<Stmt, ParseStop>
+    ensures { Parses result cursor.new (rest keywords.InnerJoin name table cursor.old) }
+{
+    cursor.symbol(Symbol::Comma)?;
+    let other = cursor.name(alloc)?;
+    let sets = paren_list(cursor, alloc)?;
+    Ok(Stmt::InnerJoin {
+        name,
+        table,
+        other,
+        sets,
+    })
+}
 
-    /// Reads the parts of `diff`.
-    #[tactic(auto, unfolding(crate::specs::Forms::body))]
-    pub(crate) fn diff(&mut self, alloc: Global) -> Result<Stmt, ParseStop>
-        ensures { Parses result (terminals_of self.new.rest.now) (forms.body keywords.Diff (terminals_of self.old.rest.now)) }
-    {
-        let name = self.name(alloc)?;
-        self.sign(Sign::Assign)?;
-        let table = self.name(alloc)?;
-        self.sign(Sign::Comma)?;
-        let other = self.name(alloc)?;
-        Ok(Stmt::Diff { name, table, other })
-    }
-
-    /// Reads the parts of `innerjoin`.
-    #[tactic(auto, unfolding(crate::specs::Forms::body))]
-    pub(crate) fn inner_join(&mut self, alloc: Global) -> Result<Stmt, ParseStop>
-        ensures { Parses result (terminals_of self.new.rest.now) (forms.body keywords.InnerJoin (terminals_of self.old.rest.now)) }
-    {
-        let name = self.name(alloc)?;
-        self.sign(Sign::Assign)?;
-        let table = self.name(alloc)?;
-        self.sign(Sign::Comma)?;
-        let other = self.name(alloc)?;
-        let sets = self.paren_list(alloc)?;
-        Ok(Stmt::InnerJoin {
-            name,
-            table,
-            other,
-            sets,
-        })
-    }
-
-    /// Reads the parts of `leftjoin`.
-    #[tactic(auto, unfolding(crate::specs::Forms::body))]
-    pub(crate) fn left_join(&mut self, alloc: Global) -> Result<Stmt, ParseStop>
-        ensures { Parses result (terminals_of self.new.rest.now) (forms.body keywords.LeftJoin (terminals_of self.old.rest.now)) }
-    {
-        let name = self.name(alloc)?;
-        self.sign(Sign::Assign)?;
-        let table = self.name(alloc)?;
-        self.sign(Sign::Comma)?;
-        let other = self.name(alloc)?;
-        self.keyword("default")?;
-        let default = self.paren_list(alloc)?;
-        let sets = self.paren_list(alloc)?;
-        Ok(Stmt::LeftJoin {
-            name,
-            table,
-            other,
-            default,
-            sets,
-        })
-    }
-
-    /// Reads the parts of `print`.
-    #[tactic(auto, unfolding(crate::specs::Forms::body))]
-    pub(crate) fn print(&mut self, alloc: Global) -> Result<Stmt, ParseStop>
-        ensures { Parses result (terminals_of self.new.rest.now) (forms.body keywords.Print (terminals_of self.old.rest.now)) }
-    {
-        let what = self.print_target()?;
-        let name = self.name(alloc)?;
-        Ok(print_of(what, name))
-    }
-
-    /// Reads the parts of `count`.
-    #[tactic(auto, unfolding(crate::specs::Forms::body))]
-    pub(crate) fn count(&mut self, alloc: Global) -> Result<Stmt, ParseStop>
-        ensures { Parses result (terminals_of self.new.rest.now) (forms.body keywords.Count (terminals_of self.old.rest.now)) }
-    {
-        let what = self.counted()?;
-        let name = self.name(alloc)?;
-        Ok(count_of(what, name))
-    }
+/// Parses the rest of `leftjoin`.
+pub(crate) fn left_join(
+    cursor: &mut Cursor<'_>,
+    alloc: Global,
+    name: Text,
+    table: Text,
+) -> Result<Stmt, ParseStop>
+    ensures { Parses result cursor.new (rest keywords.LeftJoin name table cursor.old) }
+{
+    cursor.symbol(Symbol::Comma)?;
+    let other = cursor.name(alloc)?;
+    cursor.keyword("default")?;
+    let default = paren_list(cursor, alloc)?;
+    let sets = paren_list(cursor, alloc)?;
+    Ok(Stmt::LeftJoin {
+        name,
+        table,
+        other,
+        default,
+        sets,
+    })
 }

@@ -1,9 +1,9 @@
-use Rattle.gx_cuts.proofs.SideLemmas.{side_of-is}
+use Rattle.gx_cuts.proofs.SideLemmas.{IsSide-grid_side}
 use Rattle.gx_cuts.proofs.Spread.{spread}
 use Rattle.gx_cuts.proofs.grid.two_d_bound.Goals as goal
 
-pub returns-clause-side : goal.returns-clause-side
-returns-clause-side c = side_of-is _ c.requires
+pub returns-clause-least_side : goal.returns-clause-least_side
+returns-clause-least_side c = IsSide-grid_side _ c.requires
 
-pub returns-clause-spread : goal.returns-clause-spread
-returns-clause-spread c = spread _ _ c.requires
+pub returns-clause-bounded : goal.returns-clause-bounded
+returns-clause-bounded c = spread _ _ c.requires

@@ -1,11 +1,12 @@
 use Rattle.std.proofs.Common.{rules}
-use Rattle.gx_mask.proofs.Joining.{and_joined}
+use Rattle.gx_mask.proofs.Pairs.{and_of}
+use Rattle.gx_mask.proofs.Represents.{bits_are, no_stray_bits, represents}
 use Rattle.gx_mask.proofs.mask.Mask.and.Goals as goal
 
 pub invariant_of-result : goal.invariant_of-result
 invariant_of-result c =
-    (and_joined c.self.inside.words.items c.other.inside.words.items _ _ _ _ _ c.self.invariant c.other.invariant c.self.view_is c.other.view_is c.requires (search rules)).tight
+    no_stray_bits (and_of (represents c.self.invariant c.self.view_is) (represents c.other.invariant c.other.view_is) c.requires (search rules))
 
 pub returns : goal.returns
 returns c =
-    (and_joined c.self.inside.words.items c.other.inside.words.items _ _ _ _ _ c.self.invariant c.other.invariant c.self.view_is c.other.view_is c.requires (search rules)).shown
+    bits_are (and_of (represents c.self.invariant c.self.view_is) (represents c.other.invariant c.other.view_is) c.requires (search rules))

@@ -1,5 +1,5 @@
 use Rattle.gx_mask.proofs.Counting.{IsCountOf}
 use Rattle.gx_mask.proofs.mask.Mask.count.Given as goal
 
-abbrev pub invariant-words : goal.invariant-words
-invariant-words l = IsCountOf l.word-items l.word-index l.total
+abbrev pub invariant-u64s : goal.invariant-u64s
+invariant-u64s l = IsCountOf l.self l.bits-index l.total

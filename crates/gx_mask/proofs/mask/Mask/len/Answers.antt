@@ -1,10 +1,9 @@
-use Rattle.std.proofs.Common.{arith}
-use Rattle.gx_mask.proofs.PlaceLemmas.{length_seen}
+use Rattle.std.proofs.Common.{arith, sym}
+use Rattle.gx_mask.proofs.Represents.{represents}
 use Rattle.gx_mask.proofs.mask.Mask.len.Goals as goal
 
 pub returns-clause-count : goal.returns-clause-count
-returns-clause-count c = length_seen _ _ _ c.self.view_is
+returns-clause-count c = sym (represents c.self.invariant c.self.view_is).len
 
-pub returns-clause-few : goal.returns-clause-few
-returns-clause-few c =
-    omega (arith, length_seen _ _ _ c.self.view_is)
+pub returns-clause-fits_u32 : goal.returns-clause-fits_u32
+returns-clause-fits_u32 c = omega (arith, (represents c.self.invariant c.self.view_is).len)

@@ -1,12 +1,14 @@
 use Rattle.std.proofs.Common.{refl, arith}
-use Rattle.gx_parts.proofs.Numbered.{all_made, one_more}
-use Rattle.gx_parts.proofs.Pushed.{values_push}
+use Rattle.gx_parts.proofs.Steps.{IsMappedTo-more, MappedBy-all, shared_values-push}
 use Rattle.gx_parts.proofs.parts.Parts.map_parts.Goals as goal
 
 pub loop-i-preserved : goal.loop-i-preserved
 loop-i-preserved g c =
-    rw (values_push _ _ _ _ c.in_ok-push.ensures.items c.in_ok-new.ensures.ok)
-    (one_more c.part.result.now c.in_ok-answer.answer c.loop-i.invariant c.part.ensures (c.part.result, refl, c.in_ok-answer.ensures))
+    rw (shared_values-push _ _ _ _ c.in_ok-push.ensures.items c.in_ok-new.ensures.ok)
+    (IsMappedTo-more c.part.result.now c.in_ok-mapped.mapped c.loop-i.invariant c.part.ensures (c.part.result, refl, c.in_ok-mapped.ensures))
 
-pub returns : goal.returns
-returns g c = rw c.of.ensures (all_made c.loop-i.invariant (omega arith))
+pub returns-clause-mapped : goal.returns-clause-mapped
+returns-clause-mapped g c = rw c.of.ensures (MappedBy-all c.loop-i.invariant (omega arith))
+
+pub returns-clause-len_kept : goal.returns-clause-len_kept
+returns-clause-len_kept g c = rw c.of.ensures (omega (arith, c.loop-i.invariant.len))

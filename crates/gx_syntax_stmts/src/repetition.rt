@@ -1,0 +1,51 @@
+//! Repetition: values that are parsed one after another while the next token begins one more.
+
+ghost use Rattle.std.specs.Prelude.{◌≡◌, ◌++◌, Bool, List, Result};
+ghost use Rattle.gx_syntax_tokens.specs.Terminals.{Terminal};
+ghost use Rattle.gx_syntax_exprs.specs.Combinators.{map_value, many_while};
+ghost use Rattle.gx_syntax_exprs.specs.Parses.{Parses};
+ghost use Rattle.gx_syntax_exprs.specs.TokenParsers.{is_next};
+
+use gx_syntax_exprs::{Cursor, ParseStop};
+use sqlite_items::Items;
+use std::alloc::Global;
+
+/// A way to repeat: by which token one more value begins, and how it is parsed.
+pub(crate) trait Repeated {
+    type Item: Drop;
+
+    ghost starts: { Terminal → Bool };
+
+    ghost parsed: { List Terminal → Result (Self.Item × List Terminal) (List Terminal) };
+
+    /// Whether the next token begins one more value.
+    fn is_next(cursor: &Cursor<'_>) -> bool
+        ensures { result ≡ is_next starts cursor.now };
+
+    /// Parses one more value.
+    fn parse(cursor: &mut Cursor<'_>, alloc: Global) -> Result<Self::Item, ParseStop>
+        ensures { Parses result cursor.new (parsed cursor.old) };
+}
+
+/// Parses values while the next token begins one more, and appends them to `items`.
+pub(crate) fn many<R: Repeated>(
+    cursor: &mut Cursor<'_>,
+    alloc: Global,
+    items: Items<R::Item>,
+) -> Result<Items<R::Item>, ParseStop>
+    ensures { Parses result cursor.new (map_value (λ xs. items ++ xs) (many_while R.starts R.parsed) cursor.old) }
+{
+    let mut items = items;
+    // There are fewer values than tokens.
+    let most = cursor.len() + 1;
+    'items: for _ in 0..most {
+        if !R::is_next(cursor) {
+            return Ok(items);
+        }
+        match R::parse(cursor, alloc) {
+            Ok(item) => items.push(item)?,
+            Err(stop) => return Err(stop),
+        }
+    }
+    Err(ParseStop::Refused)
+}

@@ -1,0 +1,53 @@
+"""Checks that the documents are whole, and that sources are documented.
+
+Each crate has a README.md, each link of a document leads somewhere, and each module and public item
+of the sources has a comment that says what it is.
+"""
+
+import re
+
+from checks.report import TOP, judge
+
+DOCUMENTS = sorted([*TOP.glob("*.md"), *TOP.glob("docs/*.md"), *TOP.glob("crates/*/README.md")])
+
+
+def check_readmes():
+    for folder in sorted(it.parent for it in TOP.glob("crates/*/src")):
+        there = (folder / "README.md").exists()
+        judge(f"{folder.relative_to(TOP)}/README.md", None if there else "is missing")
+
+
+def check_links():
+    for document in DOCUMENTS:
+        for target in re.findall(r"\]\(([^)\s]+)\)", document.read_text()):
+            if "://" in target or target.startswith("#"):
+                continue
+            there = (document.parent / target.split("#")[0]).exists()
+            judge(f"{document.relative_to(TOP)}, link {target}", None if there else "leads nowhere")
+
+
+ITEM = re.compile(r"\s*pub (?:const fn|fn|struct|enum|trait|const|static|type)\b|\s*pub \w+:")
+
+
+def undocumented(lines):
+    """The numbers of the lines that begin a public item with no `///` above it."""
+    found = []
+    for number, line in enumerate(lines):
+        if not ITEM.match(line):
+            continue
+        above = number - 1
+        while above >= 0 and lines[above].strip().startswith("#["):
+            above -= 1
+        if above < 0 or not lines[above].strip().startswith("///"):
+            found.append(number + 1)
+    return found
+
+
+def check_sources():
+    for source in sorted(TOP.glob("crates/*/src/**/*.rt")):
+        lines = source.read_text().splitlines()
+        name = source.relative_to(TOP)
+        has_head = lines[0].startswith("//! ")
+        judge(f"{name}, module documentation", None if has_head else "no `//!` at its head")
+        missing = undocumented(lines)
+        judge(f"{name}, public items", f"no `///` at lines {missing}" if missing else None)

@@ -1,0 +1,98 @@
+"""Tries the program that `./gx` runs.
+
+Every example prints what its `.out` file says, every console block of README.md and docs/ prints
+what it shows, and bad input ends with its status and prints nothing.
+"""
+
+import re
+import shutil
+import subprocess
+import tempfile
+from pathlib import Path
+
+from checks.report import GX, TOP, as_nobody, judge, output_of, run
+
+
+def check_start():
+    """Returns whether there is a program to try. It is built first if dist/ does not have it."""
+    ended = run([GX, "run", "none.gx"])
+    problem = f"`./gx run none.gx` ended with status {ended.returncode} for 4, {ended.stderr!r}"
+    judge("the program", None if ended.returncode == 4 else problem)
+    return ended.returncode == 4
+
+
+def check_examples():
+    for script in sorted(TOP.glob("examples/*/*.gx")):
+        wanted = script.with_suffix(".out").read_bytes()
+        ended = run([GX, "run", script.name], script.parent)
+        problem = None
+        if ended.returncode != 0:
+            problem = f"status {ended.returncode}"
+        elif ended.stdout != wanted:
+            problem = f"printed {ended.stdout!r}"
+        judge(f"example {script.relative_to(TOP)}", problem)
+
+
+def check_console_blocks():
+    """Runs each `$` line of a console block at the top and compares what follows it."""
+    for document in (TOP / "README.md", *sorted((TOP / "docs").glob("*.md"))):
+        blocks = re.findall(r"^```console\n(.*?)^```", document.read_text(), re.S | re.M)
+        for number, block in enumerate(blocks, 1):
+            for step in re.split(r"^\$ ", block, flags=re.M)[1:]:
+                command, _, wanted = step.partition("\n")
+                ended = run(["bash", "-c", command + " 2>&1"])
+                printed = ended.stdout.decode(errors="replace")
+                problem = None if printed == wanted else f"printed {printed!r}"
+                judge(f"{document.name}, console block {number}, `{command}`", problem)
+
+
+def check_bad_input():
+    """Each case has the arguments and the status of the run. Nothing may be printed."""
+    with tempfile.TemporaryDirectory() as folder:
+        here = Path(folder)
+        here.chmod(0o755)
+        (here / "ages.csv").write_text("id,age\n1,2\n")
+        (here / "s.gx").write_text('vertices a from "ages.csv" (age: int); print table a;')
+        (here / "absent.gx").write_text('vertices a from "none.csv" (age: int); print table a;')
+        (here / "folder.gx").write_text('vertices a from "." (age: int); print table a;')
+        (here / "nameless.gx").write_text('vertices a from "" (age: int); print table a;')
+        noise = bytes((i * 167 + i // 251 * 89) % 256 for i in range(5000))
+        (here / "random.gx").write_bytes(noise)
+        (here / "zero.gx").write_bytes(b'vertices a from "a\0b" (age: int); print table a;')
+        (here / "text.gx").write_bytes(b'vertices a from "\xff" (age: int); print table a;')
+        (here / "empty.gx").write_bytes(b"")
+        cases = [
+            ([], 2),
+            (["run"], 2),
+            (["show", "s.gx"], 2),
+            (["run", "s.gx", "--parts"], 2),
+            ([b"run", b"\xff\xfe"], 2),
+            (["run", "none.gx"], 4),
+            (["run", "."], 4),
+            (["run", ""], 4),
+            (["run", "absent.gx"], 4),
+            (["run", "folder.gx"], 4),
+            (["run", "nameless.gx"], 4),
+            (["run", "zero.gx"], 4),
+            (["run", "random.gx"], 1),
+            (["run", "text.gx"], 1),
+            (["run", "empty.gx"], 1),
+        ]
+        for words, status in cases:
+            ended = run([GX, *words], here)
+            problem = None
+            if ended.returncode != status:
+                problem = f"status {ended.returncode} for {status}"
+            elif ended.stdout:
+                problem = f"printed {ended.stdout!r}"
+            judge(f"bad input {words}", problem)
+
+        with open("/dev/full", "wb") as full:
+            streams = {"stdout": full, "stderr": subprocess.DEVNULL}
+            status = subprocess.run([GX, "run", "s.gx"], cwd=here, **streams).returncode
+        judge("output to a full device", None if status == 5 else f"status {status}")
+
+        (here / "s.gx").chmod(0)
+        program = shutil.copy(output_of("tools/program"), here / "gx")
+        status = run([*as_nobody(), program, "run", "s.gx"], here).returncode
+        judge("a script that may not be read", None if status == 4 else f"status {status}")

@@ -1,0 +1,86 @@
+"""Checks dist/, the built program that the repository carries, and the launcher that chooses it.
+
+dist/gx must be of these sources and, under the toolchain that built it, have the bytes of the
+program that the gate or the launcher built here. Another toolchain may write other bytes: that is a
+note, and not a failure.
+"""
+
+import shutil
+import tempfile
+from pathlib import Path
+
+from checks.report import TOP, as_nobody, judge, note, output_of, run
+
+DIST = TOP / "dist"
+REFRESH = "run .ci/run and then tools/release"
+
+
+def recorded(name):
+    file = DIST / name
+    return file.read_text().strip() if file.exists() else "nothing"
+
+
+def difference():
+    """Why dist/gx is not the program that is built here, if it can be compared."""
+    if not shutil.which("rt"):
+        return note("dist/gx is not compared with a build, as rt is not on the PATH")
+    toolchain = output_of("rt", "version")
+    if toolchain != recorded("toolchain"):
+        return note(f"dist/gx was built by {recorded('toolchain')} and not {toolchain}: {REFRESH}")
+    built = output_of("tools/program", "built")
+    if not built:
+        return "there is no build to compare it with"
+    if Path(built).read_bytes() == (DIST / "gx").read_bytes():
+        return None
+    return f"other bytes than {built}, of the same toolchain and sources: {REFRESH}"
+
+
+def check_dist():
+    """Returns whether dist/gx is of these sources and for this kind of machine."""
+    is_whole = (DIST / "gx").exists()
+    is_current = is_whole and recorded("sources.sha256") == output_of("tools/sources")
+    problem = None if is_current else f"dist/gx is not of these sources: {REFRESH}"
+    judge("dist/sources.sha256", problem)
+    if recorded("machine") != output_of("uname", "-sm"):
+        note(f"dist/gx is not compared with a build, as it is for {recorded('machine')}")
+        return False
+    if is_current:
+        judge("dist/gx", difference())
+    return is_current
+
+
+def bare_clone(here):
+    """Copies what the launcher needs, and gives it the commands that it may use, but not rt."""
+    clone, commands = here / "clone", here / "commands"
+    for name in ("tools", "dist", "examples"):
+        shutil.copytree(TOP / name, clone / name)
+    for sources in TOP.glob("crates/*/src"):
+        shutil.copytree(sources, clone / sources.relative_to(TOP))
+    for name in ("gx", "crates.txt"):
+        shutil.copy2(TOP / name, clone / name)
+    commands.mkdir()
+    for name in ("bash", "dirname", "find", "mkdir", "readlink", "sha256sum", "sort", "uname"):
+        (commands / name).symlink_to(shutil.which(name))
+    (here / "link").symlink_to("clone/gx")
+    here.chmod(0o755)
+    return clone, {"PATH": str(commands)}
+
+
+def check_launcher():
+    """Runs `./gx` with no toolchain, through a link and in a clone that it may not write to."""
+    with tempfile.TemporaryDirectory() as folder:
+        clone, env = bare_clone(Path(folder))
+        script = min(clone.glob("examples/*/*.gx"))
+        command = [*as_nobody(), "../../../link", "run", script.name]
+
+        ended = run(command, script.parent, env=env)
+        is_right = ended.stdout == script.with_suffix(".out").read_bytes() and not ended.returncode
+        said = f"status {ended.returncode}, {ended.stderr!r}"
+        judge("launcher with no toolchain", None if is_right else said)
+
+        with open(clone / "crates/gx/src/main.rt", "a") as source:
+            source.write("\n")
+        ended = run(command, script.parent, env=env)
+        is_right = b"put the toolchain's rt on the PATH" in ended.stderr and ended.returncode == 70
+        said = f"status {ended.returncode}, {ended.stderr!r}"
+        judge("launcher with no toolchain and a changed source", None if is_right else said)
