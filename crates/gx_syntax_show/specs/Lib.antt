@@ -1,4 +1,10 @@
-pub mod Shown
-pub mod ShownForms
-pub mod ShownScripts
-pub mod Putting
+pub mod Words
+pub mod ListPieces
+pub mod ExprPieces
+pub mod ItemPieces
+pub mod StmtPieces
+pub mod ScriptLines
+pub mod CanonicalExprs
+pub mod CanonicalScripts
+pub mod Writes
+pub mod StmtShapes

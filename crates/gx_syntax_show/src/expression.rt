@@ -1,41 +1,44 @@
-//! Expressions.
+//! Writes expressions, with parentheses only where the grammar needs them.
+//!
+//! Each call says which level its operand needs at least; `gx_syntax_tree` has the levels. A new
+//! operator needs its arm in `put_prefix` or `put_infix` and nothing else here.
 
 ghost use Rattle.std.specs.Prelude.{◌≡◌, OnOk};
-ghost use Rattle.gx_syntax_tokens.specs.SpacedText as spacing;
-ghost use Rattle.gx_syntax_tokens.specs.Writing.{with_piece, with_pieces};
-ghost use Rattle.gx_syntax_exprs.specs.Operators as grammar;
-ghost use Rattle.gx_syntax_show.specs.Putting.{with_close, with_open};
-ghost use Rattle.gx_syntax_show.specs.Shown.{piece_before, pieces};
+ghost use Rattle.gx_syntax_exprs.specs.Operators.{infix_token};
+ghost use Rattle.gx_syntax_tokens.specs.SpacedText as pieces;
+ghost use Rattle.gx_syntax_tokens.specs.Writing.{with_piece};
+ghost use Rattle.gx_syntax_show.specs.ExprPieces.{expr_pieces, prefix_piece};
+ghost use Rattle.gx_syntax_show.specs.Writes.{Writes, with_operand_close, with_operand_open};
 
-use crate::entries::put_entries;
+use crate::items::put_list;
 use crate::words::truth_word;
-use gx_syntax_tree::{BinaryOp, Expr, UnaryOp};
 use gx_rows::NoMemory;
 use gx_syntax_tokens::{Symbol, Writer};
+use gx_syntax_tree::{BinaryOp, Expr, UnaryOp};
 
-// Writes the parenthesis before an operation of a level, where one is needed.
-fn put_open(out: &mut Writer, wanted: u8, level: u8) -> Result<(), NoMemory>
-    ensures { OnOk result (out.new ≡ with_open wanted level out.old) }
+// Writes the parenthesis before an operand of this level, if a higher one is needed.
+fn put_operand_open(out: &mut Writer, needed: u8, level: u8) -> Result<(), NoMemory>
+    ensures { OnOk result (out.new ≡ with_operand_open needed level out.old) }
 {
-    if wanted <= level {
+    if needed <= level {
         return Ok(());
     }
     out.symbol(Symbol::OpenParen)
 }
 
-// Writes the parenthesis behind it.
-fn put_close(out: &mut Writer, wanted: u8, level: u8) -> Result<(), NoMemory>
-    ensures { OnOk result (out.new ≡ with_close wanted level out.old) }
+// Writes the parenthesis after it.
+fn put_operand_close(out: &mut Writer, needed: u8, level: u8) -> Result<(), NoMemory>
+    ensures { OnOk result (out.new ≡ with_operand_close needed level out.old) }
 {
-    if wanted <= level {
+    if needed <= level {
         return Ok(());
     }
     out.symbol(Symbol::CloseParen)
 }
 
-// Writes an operator before its operand.
-fn put_before(out: &mut Writer, operator: UnaryOp) -> Result<(), NoMemory>
-    ensures { OnOk result (out.new ≡ with_piece out.old (piece_before operator)) }
+// Writes a prefix operator.
+fn put_prefix(out: &mut Writer, operator: UnaryOp) -> Result<(), NoMemory>
+    ensures { OnOk result (out.new ≡ with_piece out.old (prefix_piece operator)) }
 {
     match operator {
         UnaryOp::Not => out.word("not"),
@@ -43,9 +46,9 @@ fn put_before(out: &mut Writer, operator: UnaryOp) -> Result<(), NoMemory>
     }
 }
 
-// Writes an operator between its operands.
-fn put_between(out: &mut Writer, operator: BinaryOp) -> Result<(), NoMemory>
-    ensures { OnOk result (out.new ≡ with_piece out.old (spacing.token (grammar.infix_token operator))) }
+// Writes an infix operator.
+fn put_infix(out: &mut Writer, operator: BinaryOp) -> Result<(), NoMemory>
+    ensures { OnOk result (out.new ≡ with_piece out.old (pieces.token (infix_token operator))) }
 {
     match operator {
         BinaryOp::Or => out.word("or"),
@@ -64,19 +67,20 @@ fn put_between(out: &mut Writer, operator: BinaryOp) -> Result<(), NoMemory>
     }
 }
 
-/// Writes an expression that stands where a level is wanted.
+/// Writes an expression as an operand of level `needed` or more, from 1 to 8. A whole expression
+/// has level 1.
 ///
 /// # Errors
 ///
-/// `NoMemory` where there is no room for it.
+/// `NoMemory` if there is no room for it.
 #[cycle(expression)]
-#[tactic(auto, using(crate::proofs::ExpressionLemmas::with_call, crate::proofs::ExpressionLemmas::with_before, crate::proofs::ExpressionLemmas::with_between))]
+#[tactic(auto, using(crate::proofs::ExprWriting::with_call, crate::proofs::ExprWriting::with_prefix, crate::proofs::ExprWriting::with_infix))]
 pub(crate) fn put_expression(
     out: &mut Writer,
     expression: &Expr,
-    wanted: u8,
+    needed: u8,
 ) -> Result<(), NoMemory>
-    ensures { OnOk result (out.new ≡ with_pieces out.old (pieces wanted expression.now)) }
+    ensures { Writes result out.old out.new (expr_pieces needed expression.now) }
 {
     match expression {
         Expr::Number(number) => out.number(number.unsigned_abs()),
@@ -90,20 +94,20 @@ pub(crate) fn put_expression(
         }
         Expr::Call(name, arguments) => {
             out.function(name.as_str())?;
-            put_entries(out, arguments)
+            put_list(out, arguments)
         }
         Expr::Unary(operator, operand) => {
-            put_open(out, wanted, operator.precedence())?;
-            put_before(out, *operator)?;
+            put_operand_open(out, needed, operator.precedence())?;
+            put_prefix(out, *operator)?;
             put_expression(out, operand.get(), operator.operand_precedence())?;
-            put_close(out, wanted, operator.precedence())
+            put_operand_close(out, needed, operator.precedence())
         }
-        Expr::Binary(operator, front, behind) => {
-            put_open(out, wanted, operator.precedence())?;
-            put_expression(out, front.get(), operator.left_precedence())?;
-            put_between(out, *operator)?;
-            put_expression(out, behind.get(), operator.right_precedence())?;
-            put_close(out, wanted, operator.precedence())
+        Expr::Binary(operator, left, right) => {
+            put_operand_open(out, needed, operator.precedence())?;
+            put_expression(out, left.get(), operator.left_precedence())?;
+            put_infix(out, *operator)?;
+            put_expression(out, right.get(), operator.right_precedence())?;
+            put_operand_close(out, needed, operator.precedence())
         }
     }
 }

@@ -1,32 +1,28 @@
-//! Statements that make one graph or table of another.
+//! Writes the statements that make a graph of one source: `fromedges`, `reverse`, `mask`,
+//! `subgraph`, `groupedges`, `partition`. `put_derived` begins each statement that has a source.
 
-ghost use Rattle.std.specs.Prelude.{◌≡◌, ◌++◌, OnOk};
-ghost use Rattle.gx_syntax_tokens.specs.Writing.{with_pieces};
-ghost use Rattle.gx_syntax_stmts.specs.Parts.{filter_of};
-ghost use Rattle.gx_syntax_tree.specs.declared.keyword.StmtKeyword.TheVariants as keywords;
-ghost use Rattle.gx_syntax_show.specs.Putting.{begun};
-ghost use Rattle.gx_syntax_show.specs.Shown.{enclosed};
+ghost use Rattle.gx_syntax_show.specs.StmtShapes.{by_pieces, derived_pieces, from_edges_pieces, group_edges_pieces, subgraph_pieces};
+ghost use Rattle.gx_syntax_show.specs.Writes.{Writes};
 
-use crate::entries::{ListItem, put_entries};
-use crate::expression::put_expression;
-use crate::sends::put_led;
-use gx_syntax_tree::Expr;
+use crate::clauses::put_optional;
+use crate::items::put_list;
 use gx_rows::{NoMemory, Text};
 use gx_syntax_tokens::{Symbol, Writer};
+use gx_syntax_tree::{ColumnConst, ColumnMerge, Expr};
 use sqlite_items::Items;
 
 /// Writes `WORD NAME = SOURCE`.
 ///
 /// # Errors
 ///
-/// `NoMemory` where there is no room for it.
-pub(crate) fn put_made(
+/// `NoMemory`, as each of these functions.
+pub(crate) fn put_derived(
     out: &mut Writer,
     word: &str,
     name: &Text,
     source: &Text,
 ) -> Result<(), NoMemory>
-    ensures { OnOk result (out.new ≡ with_pieces out.old (begun word.now keywords.Reverse (name.now, (source.now, tt)))) }
+    ensures { Writes result out.old out.new (derived_pieces word.now name.now source.now) }
 {
     out.word(word)?;
     out.word(name.as_str())?;
@@ -34,30 +30,21 @@ pub(crate) fn put_made(
     out.word(source.as_str())
 }
 
-/// Writes `WORD NAME = SOURCE list`.
-///
-/// # Errors
-///
-/// `NoMemory`.
+/// Writes `fromedges NAME = EDGES (row)`.
 #[tactic(auto, using(crate::proofs::PiecesLemmas::pieces_append))]
-pub(crate) fn put_list<E: ListItem>(
+pub(crate) fn put_from_edges(
     out: &mut Writer,
-    word: &str,
     name: &Text,
-    source: &Text,
-    entries: &Items<E>,
+    edges: &Text,
+    row: &Items<ColumnConst>,
 ) -> Result<(), NoMemory>
-    ensures { OnOk result (out.new ≡ with_pieces out.old (begun word.now keywords.Reverse (name.now, (source.now, tt)) ++ enclosed E.shown entries.now)) }
+    ensures { Writes result out.old out.new (from_edges_pieces name.now edges.now row.now) }
 {
-    put_made(out, word, name, source)?;
-    put_entries(out, entries)
+    put_derived(out, "fromedges", name, edges)?;
+    put_list(out, row)
 }
 
-/// Writes `WORD NAME = SOURCE by WORD`: a graph's name, or a cut.
-///
-/// # Errors
-///
-/// `NoMemory`.
+/// Writes `WORD NAME = SOURCE by WORD`: the name of a graph, or a way to partition edges.
 pub(crate) fn put_by(
     out: &mut Writer,
     word: &str,
@@ -65,50 +52,39 @@ pub(crate) fn put_by(
     source: &Text,
     by: &str,
 ) -> Result<(), NoMemory>
-    ensures { OnOk result (out.new ≡ with_pieces out.old (begun word.now keywords.Mask (name.now, (source.now, (by.now, tt))))) }
+    ensures { Writes result out.old out.new (by_pieces word.now name.now source.now by.now) }
 {
-    put_made(out, word, name, source)?;
+    put_derived(out, word, name, source)?;
     out.word("by")?;
     out.word(by)
 }
 
-/// Writes `WORD NAME = SOURCE [vertices expr] [edges expr]`.
-///
-/// # Errors
-///
-/// `NoMemory`.
+/// Writes `subgraph NAME = GRAPH [vertices expr] [edges expr]`.
 #[tactic(auto, using(crate::proofs::PiecesLemmas::pieces_append))]
-pub(crate) fn put_tests(
+pub(crate) fn put_subgraph(
     out: &mut Writer,
-    word: &str,
     name: &Text,
-    source: &Text,
+    graph: &Text,
     vertices: &Option<Expr>,
     edges: &Option<Expr>,
 ) -> Result<(), NoMemory>
-    ensures { OnOk result (out.new ≡ with_pieces out.old (begun word.now keywords.Subgraph (name.now, (source.now, (filter_of vertices.now edges.now, tt))))) }
+    ensures { Writes result out.old out.new (subgraph_pieces name.now graph.now vertices.now edges.now) }
 {
-    put_made(out, word, name, source)?;
-    put_led(out, "vertices", vertices)?;
-    put_led(out, "edges", edges)
+    put_derived(out, "subgraph", name, graph)?;
+    put_optional(out, "vertices", vertices)?;
+    put_optional(out, "edges", edges)
 }
 
-/// Writes `WORD NAME = SOURCE where expr`.
-///
-/// # Errors
-///
-/// `NoMemory`.
+/// Writes `groupedges NAME = GRAPH (merges)`.
 #[tactic(auto, using(crate::proofs::PiecesLemmas::pieces_append))]
-pub(crate) fn put_filter(
+pub(crate) fn put_group_edges(
     out: &mut Writer,
-    word: &str,
     name: &Text,
-    source: &Text,
-    condition: &Expr,
+    graph: &Text,
+    merges: &Items<ColumnMerge>,
 ) -> Result<(), NoMemory>
-    ensures { OnOk result (out.new ≡ with_pieces out.old (begun word.now keywords.Filter (name.now, (source.now, (condition.now, tt))))) }
+    ensures { Writes result out.old out.new (group_edges_pieces name.now graph.now merges.now) }
 {
-    put_made(out, word, name, source)?;
-    out.word("where")?;
-    put_expression(out, condition, 1)
+    put_derived(out, "groupedges", name, graph)?;
+    put_list(out, merges)
 }

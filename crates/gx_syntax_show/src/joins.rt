@@ -1,22 +1,20 @@
-//! Statements that make one graph or table of two others.
+//! Writes the statements of two sources: `graph`, the joins, `minus` and `diff`.
 
-ghost use Rattle.std.specs.Prelude.{◌≡◌, OnOk};
-ghost use Rattle.gx_syntax_tokens.specs.Writing.{with_pieces};
-ghost use Rattle.gx_syntax_tree.specs.declared.keyword.StmtKeyword.TheVariants as keywords;
-ghost use Rattle.gx_syntax_show.specs.Putting.{begun};
+ghost use Rattle.gx_syntax_show.specs.StmtShapes.{default_pieces, join_pieces, outer_join_pieces, pair_pieces};
+ghost use Rattle.gx_syntax_show.specs.Writes.{Writes};
 
-use crate::entries::put_entries;
-use crate::graphs::put_made;
-use gx_syntax_tree::{ColumnExpr, Const};
+use crate::graphs::put_derived;
+use crate::items::put_list;
 use gx_rows::{NoMemory, Text};
 use gx_syntax_tokens::{Symbol, Writer};
+use gx_syntax_tree::{ColumnExpr, Const};
 use sqlite_items::Items;
 
 /// Writes `WORD NAME = SOURCE, OTHER`.
 ///
 /// # Errors
 ///
-/// `NoMemory` where there is no room for it.
+/// `NoMemory`, as each of these functions.
 pub(crate) fn put_pair(
     out: &mut Writer,
     word: &str,
@@ -24,18 +22,14 @@ pub(crate) fn put_pair(
     source: &Text,
     other: &Text,
 ) -> Result<(), NoMemory>
-    ensures { OnOk result (out.new ≡ with_pieces out.old (begun word.now keywords.Minus (name.now, (source.now, (other.now, tt))))) }
+    ensures { Writes result out.old out.new (pair_pieces word.now name.now source.now other.now) }
 {
-    put_made(out, word, name, source)?;
+    put_derived(out, word, name, source)?;
     out.symbol(Symbol::Comma)?;
     out.word(other.as_str())
 }
 
-/// Writes `WORD NAME = SOURCE, OTHER sets`.
-///
-/// # Errors
-///
-/// `NoMemory`.
+/// Writes `WORD NAME = SOURCE, OTHER (sets)`.
 #[tactic(auto, using(crate::proofs::PiecesLemmas::pieces_append))]
 pub(crate) fn put_join(
     out: &mut Writer,
@@ -45,17 +39,13 @@ pub(crate) fn put_join(
     other: &Text,
     sets: &Items<ColumnExpr>,
 ) -> Result<(), NoMemory>
-    ensures { OnOk result (out.new ≡ with_pieces out.old (begun word.now keywords.JoinVertices (name.now, (source.now, (other.now, (sets.now, tt)))))) }
+    ensures { Writes result out.old out.new (join_pieces word.now name.now source.now other.now sets.now) }
 {
     put_pair(out, word, name, source, other)?;
-    put_entries(out, sets)
+    put_list(out, sets)
 }
 
-/// Writes `WORD NAME = SOURCE, OTHER default row`.
-///
-/// # Errors
-///
-/// `NoMemory`.
+/// Writes `WORD NAME = SOURCE, OTHER default (row)`.
 #[tactic(auto, using(crate::proofs::PiecesLemmas::pieces_append))]
 pub(crate) fn put_default(
     out: &mut Writer,
@@ -63,20 +53,16 @@ pub(crate) fn put_default(
     name: &Text,
     source: &Text,
     other: &Text,
-    default: &Items<Const>,
+    row: &Items<Const>,
 ) -> Result<(), NoMemory>
-    ensures { OnOk result (out.new ≡ with_pieces out.old (begun word.now keywords.Graph (name.now, (source.now, (other.now, (default.now, tt)))))) }
+    ensures { Writes result out.old out.new (default_pieces word.now name.now source.now other.now row.now) }
 {
     put_pair(out, word, name, source, other)?;
     out.word("default")?;
-    put_entries(out, default)
+    put_list(out, row)
 }
 
-/// Writes `WORD NAME = SOURCE, OTHER default row sets`.
-///
-/// # Errors
-///
-/// `NoMemory`.
+/// Writes `WORD NAME = SOURCE, OTHER default (row) (sets)`.
 #[tactic(auto, using(crate::proofs::PiecesLemmas::pieces_append))]
 pub(crate) fn put_outer_join(
     out: &mut Writer,
@@ -84,11 +70,11 @@ pub(crate) fn put_outer_join(
     name: &Text,
     source: &Text,
     other: &Text,
-    default: &Items<Const>,
+    row: &Items<Const>,
     sets: &Items<ColumnExpr>,
 ) -> Result<(), NoMemory>
-    ensures { OnOk result (out.new ≡ with_pieces out.old (begun word.now keywords.OuterJoin (name.now, (source.now, (other.now, (default.now, (sets.now, tt))))))) }
+    ensures { Writes result out.old out.new (outer_join_pieces word.now name.now source.now other.now row.now sets.now) }
 {
-    put_default(out, word, name, source, other, default)?;
-    put_entries(out, sets)
+    put_default(out, word, name, source, other, row)?;
+    put_list(out, sets)
 }

@@ -1,22 +1,26 @@
-//! What holds of the tokens by which trees and scripts are shown.
+//! What holds of the tokens that are printed for trees and scripts, compared with those read.
 
-ghost use Rattle.gx_syntax_show.specs.Shown.{ShowsFewest, ShowsProper, ShowsWhatIsSpelled};
-ghost use Rattle.gx_syntax_show.specs.ShownScripts.{ShowsFewestTokens, ShowsProperLines, ShowsScripts, ShowsShort};
+ghost use Rattle.gx_syntax_show.specs.CanonicalExprs.{ShownExprHasValidTokens, ShownExprIsShortest, ShownExprSpellsIt};
+ghost use Rattle.gx_syntax_show.specs.CanonicalScripts.{ShownScriptHasValidTokens, ShownScriptIsShortest, ShownScriptIsWithinLimit, ShownScriptSpellsIt};
 
-/// What is shown of an expression spells it, nothing spells it by fewer tokens, and its
-/// tokens may stand in a text if those that were read may.
+use gx_syntax_tree::statements_are_made_of_their_views;
+
+/// The tokens printed for an expression spell it, if any tokens do. No fewer tokens spell it, and
+/// they may be in a text if those that were read may.
 pub fn shown_expressions_are_canonical()
-    ensures spelled { ShowsWhatIsSpelled }
-    ensures fewest { ShowsFewest }
-    ensures proper { ShowsProper }
+    ensures spells_it { ShownExprSpellsIt }
+    ensures is_shortest { ShownExprIsShortest }
+    ensures has_valid_tokens { ShownExprHasValidTokens }
 {}
 
-/// What is shown of a script spells it, nothing spells it by fewer tokens, no statement is shown
-/// by too many tokens if none was read by too many, and the tokens may stand in a text if those
-/// that were read may.
+/// The tokens printed for a script spell it, if any tokens do. No fewer tokens spell it, no
+/// statement is longer than the limit if none was, and they may be in a text if those that were
+/// read may.
 pub fn shown_scripts_are_canonical()
-    ensures spelled { ShowsScripts }
-    ensures fewest { ShowsFewestTokens }
-    ensures short { ShowsShort }
-    ensures proper { ShowsProperLines }
-{}
+    ensures spells_it { ShownScriptSpellsIt }
+    ensures is_shortest { ShownScriptIsShortest }
+    ensures is_within_limit { ShownScriptIsWithinLimit }
+    ensures has_valid_tokens { ShownScriptHasValidTokens }
+{
+    statements_are_made_of_their_views();
+}

@@ -1,21 +1,31 @@
-//! The canonical spelling of a script.
+//! The canonical text of a script, as it is printed: `parse(show(s)) == s` for every script `s`
+//! that some text spells, and no text that spells `s` has fewer tokens.
 //!
-//! `specs/Shown.antt` and `specs/ShownForms.antt` say by which tokens a tree is shown: those that
-//! spell it, and of such the fewest. `show` writes them by the rule of spaces of `gx_tokens`, a
-//! statement on each line. The crate stands on the trees of `gx_grammar` and the forms of
-//! `gx_statements`; `gx_syntax` proves that what is shown is read back.
+//! specs/ gives the pieces of each tree, which are its tokens and how they are spaced:
+//! `expr_pieces`, `stmt_pieces`, `lines_of_script`. `show` writes them with `Writer` of
+//! `gx_syntax_tokens`, and the two laws compare them with any tokens that spell the same tree by
+//! the grammars of `gx_syntax_exprs` and `gx_syntax_stmts`. Nothing here reads a text;
+//! `gx_syntax` proves the way back.
+//!
+//! A statement's form is defined once, in `gx_syntax_tree`. So a new statement needs its keyword's
+//! word in specs/Words.antt, an arm in `put_statement`, and the arm's line in the answers beside it.
 #![tactic(auto)]
 
-mod entries;
+mod actions;
+mod clauses;
 mod expression;
 mod graphs;
+mod items;
 mod joins;
 mod laws;
 mod loads;
-mod rounds;
+mod maps;
+mod messages;
 mod script;
-mod sends;
 mod statement;
+mod tables;
+#[cfg(test)]
+mod tests;
 mod words;
 
 pub use laws::{shown_expressions_are_canonical, shown_scripts_are_canonical};

@@ -1,22 +1,30 @@
-//! Statements that read files, and those that make graphs of what was read.
+//! Writes the statements that read files: `vertices`, `edges`, `edgelist`.
 
-ghost use Rattle.std.specs.Prelude.{◌≡◌, OnOk};
-ghost use Rattle.gx_syntax_tokens.specs.Writing.{with_pieces};
-ghost use Rattle.gx_syntax_tree.specs.declared.keyword.StmtKeyword.TheVariants as keywords;
-ghost use Rattle.gx_syntax_show.specs.Putting.{begun};
+ghost use Rattle.gx_syntax_show.specs.StmtShapes.{edge_list_pieces, file_pieces, load_pieces};
+ghost use Rattle.gx_syntax_show.specs.Writes.{Writes};
 
-use crate::entries::put_entries;
-use crate::sends::put_oriented;
-use gx_syntax_tree::ColumnDecl;
+use crate::clauses::put_oriented;
+use crate::items::put_list;
 use gx_rows::{NoMemory, Text};
 use gx_syntax_tokens::Writer;
+use gx_syntax_tree::ColumnDecl;
 use sqlite_items::Items;
 
-/// Writes `WORD NAME from FILE columns`.
+// Writes `WORD NAME from FILE`.
+fn put_file(out: &mut Writer, word: &str, name: &Text, file: &Text) -> Result<(), NoMemory>
+    ensures { Writes result out.old out.new (file_pieces word.now name.now file.now) }
+{
+    out.word(word)?;
+    out.word(name.as_str())?;
+    out.word("from")?;
+    out.quoted(file.as_str())
+}
+
+/// Writes `WORD NAME from FILE (columns)`.
 ///
 /// # Errors
 ///
-/// `NoMemory` where there is no room for it.
+/// `NoMemory`, as each of these functions.
 #[tactic(auto, using(crate::proofs::PiecesLemmas::pieces_append))]
 pub(crate) fn put_load(
     out: &mut Writer,
@@ -25,33 +33,22 @@ pub(crate) fn put_load(
     file: &Text,
     columns: &Items<ColumnDecl>,
 ) -> Result<(), NoMemory>
-    ensures { OnOk result (out.new ≡ with_pieces out.old (begun word.now keywords.Vertices (name.now, (file.now, (columns.now, tt))))) }
+    ensures { Writes result out.old out.new (load_pieces word.now name.now file.now columns.now) }
 {
-    out.word(word)?;
-    out.word(name.as_str())?;
-    out.word("from")?;
-    out.quoted(file.as_str())?;
-    put_entries(out, columns)
+    put_file(out, word, name, file)?;
+    put_list(out, columns)
 }
 
-/// Writes `WORD NAME from FILE [oriented]`.
-///
-/// # Errors
-///
-/// `NoMemory`.
+/// Writes `edgelist NAME from FILE [oriented]`.
 #[tactic(auto, using(crate::proofs::PiecesLemmas::pieces_append))]
 pub(crate) fn put_edge_list(
     out: &mut Writer,
-    word: &str,
     name: &Text,
     file: &Text,
     oriented: bool,
 ) -> Result<(), NoMemory>
-    ensures { OnOk result (out.new ≡ with_pieces out.old (begun word.now keywords.EdgeList (name.now, (file.now, (oriented, tt))))) }
+    ensures { Writes result out.old out.new (edge_list_pieces name.now file.now oriented) }
 {
-    out.word(word)?;
-    out.word(name.as_str())?;
-    out.word("from")?;
-    out.quoted(file.as_str())?;
+    put_file(out, "edgelist", name, file)?;
     put_oriented(out, oriented)
 }

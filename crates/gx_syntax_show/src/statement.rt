@@ -1,37 +1,29 @@
-//! Statements.
+//! Writes statements: each arm names the function of its family with the statement's parts.
+//!
+//! The order is that of `Stmt`: loads, graphs, maps, joins, messages, tables, actions.
 
-ghost use Rattle.std.specs.Prelude.{◌≡◌, ◌∷◌, OnOk};
-ghost use Rattle.gx_syntax_tokens.specs.SpacedText as pieces;
-ghost use Rattle.gx_syntax_tokens.specs.Terminals as terminals;
-ghost use Rattle.gx_syntax_tokens.specs.Writing.{with_pieces};
-ghost use Rattle.gx_syntax_show.specs.ShownForms.{a_word, stmt_pieces};
+ghost use Rattle.gx_syntax_show.specs.StmtPieces.{stmt_pieces};
+ghost use Rattle.gx_syntax_show.specs.Writes.{Writes};
 
-use crate::graphs::{put_by, put_filter, put_list, put_made, put_tests};
+use crate::actions::put_action;
+use crate::graphs::{put_by, put_derived, put_from_edges, put_group_edges, put_subgraph};
 use crate::joins::{put_default, put_join, put_outer_join, put_pair};
 use crate::loads::{put_edge_list, put_load};
-use crate::rounds::{put_aggregate, put_neighbours, put_program, put_rounds};
+use crate::maps::put_map;
+use crate::messages::{put_aggregate, put_neighbours, put_program, put_rounds};
+use crate::tables::put_filter;
 use crate::words::cut_word;
-use gx_syntax_tree::Stmt;
-use gx_rows::{NoMemory, Text};
+use gx_rows::NoMemory;
 use gx_syntax_tokens::Writer;
-
-// Writes `WORD WHAT NAME`.
-fn put_action(out: &mut Writer, word: &str, what: &str, name: &Text) -> Result<(), NoMemory>
-    ensures { OnOk result (out.new ≡ with_pieces out.old (pieces.token (terminals.word word.now) ∷ pieces.token (terminals.word what.now) ∷ a_word name.now)) }
-{
-    out.word(word)?;
-    out.word(what)?;
-    out.word(name.as_str())
-}
+use gx_syntax_tree::Stmt;
 
 /// Writes a statement without its `;`.
 ///
 /// # Errors
 ///
-/// `NoMemory` where there is no room for it.
-#[tactic(auto, using(crate::proofs::PiecesLemmas::pieces_append))]
+/// `NoMemory` if there is no room for it.
 pub(crate) fn put_statement(out: &mut Writer, statement: &Stmt) -> Result<(), NoMemory>
-    ensures { OnOk result (out.new ≡ with_pieces out.old (stmt_pieces statement.now)) }
+    ensures { Writes result out.old out.new (stmt_pieces statement.now) }
 {
     match statement {
         Stmt::Vertices {
@@ -48,30 +40,30 @@ pub(crate) fn put_statement(out: &mut Writer, statement: &Stmt) -> Result<(), No
             name,
             file,
             oriented,
-        } => put_edge_list(out, "edgelist", name, file, *oriented),
+        } => put_edge_list(out, name, file, *oriented),
         Stmt::Graph {
             name,
             vertices,
             edges,
             default,
         } => put_default(out, "graph", name, vertices, edges, default),
-        Stmt::FromEdges { name, edges, row } => put_list(out, "fromedges", name, edges, row),
-        Stmt::MapVertices { name, graph, sets } => put_list(out, "mapvertices", name, graph, sets),
-        Stmt::MapEdges { name, graph, sets } => put_list(out, "mapedges", name, graph, sets),
-        Stmt::MapTriplets { name, graph, sets } => put_list(out, "maptriplets", name, graph, sets),
+        Stmt::FromEdges { name, edges, row } => put_from_edges(out, name, edges, row),
+        Stmt::MapVertices { name, graph, sets } => put_map(out, "mapvertices", name, graph, sets),
+        Stmt::MapEdges { name, graph, sets } => put_map(out, "mapedges", name, graph, sets),
+        Stmt::MapTriplets { name, graph, sets } => put_map(out, "maptriplets", name, graph, sets),
         Stmt::Subgraph {
             name,
             graph,
             vertices,
             edges,
-        } => put_tests(out, "subgraph", name, graph, vertices, edges),
+        } => put_subgraph(out, name, graph, vertices, edges),
         Stmt::Mask { name, graph, by } => put_by(out, "mask", name, graph, by.as_str()),
-        Stmt::Reverse { name, graph } => put_made(out, "reverse", name, graph),
+        Stmt::Reverse { name, graph } => put_derived(out, "reverse", name, graph),
         Stmt::GroupEdges {
             name,
             graph,
             merges,
-        } => put_list(out, "groupedges", name, graph, merges),
+        } => put_group_edges(out, name, graph, merges),
         Stmt::Partition { name, graph, cut } => put_by(
             out,
             "partition",
@@ -98,9 +90,9 @@ pub(crate) fn put_statement(out: &mut Writer, statement: &Stmt) -> Result<(), No
             sends,
             merges,
         } => put_aggregate(out, name, graph, sends, merges),
-        Stmt::InDegrees { name, graph } => put_made(out, "indegrees", name, graph),
-        Stmt::OutDegrees { name, graph } => put_made(out, "outdegrees", name, graph),
-        Stmt::Degrees { name, graph } => put_made(out, "degrees", name, graph),
+        Stmt::InDegrees { name, graph } => put_derived(out, "indegrees", name, graph),
+        Stmt::OutDegrees { name, graph } => put_derived(out, "outdegrees", name, graph),
+        Stmt::Degrees { name, graph } => put_derived(out, "degrees", name, graph),
         Stmt::Neighbours {
             name,
             graph,
@@ -116,7 +108,7 @@ pub(crate) fn put_statement(out: &mut Writer, statement: &Stmt) -> Result<(), No
             program,
             sends,
         } => {
-            put_made(out, "pregel", name, graph)?;
+            put_derived(out, "pregel", name, graph)?;
             put_rounds(out, *rounds, *active)?;
             put_program(out, merges, initial, program, sends)
         }
@@ -124,8 +116,8 @@ pub(crate) fn put_statement(out: &mut Writer, statement: &Stmt) -> Result<(), No
             name,
             table,
             condition,
-        } => put_filter(out, "filter", name, table, condition),
-        Stmt::MapValues { name, table, sets } => put_list(out, "mapvalues", name, table, sets),
+        } => put_filter(out, name, table, condition),
+        Stmt::MapValues { name, table, sets } => put_map(out, "mapvalues", name, table, sets),
         Stmt::Minus { name, table, other } => put_pair(out, "minus", name, table, other),
         Stmt::Diff { name, table, other } => put_pair(out, "diff", name, table, other),
         Stmt::InnerJoin {

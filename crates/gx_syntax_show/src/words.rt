@@ -1,21 +1,21 @@
-//! Words of which one is chosen.
+//! The words that stand for a choice, as `src` or `dst`. The parser has the other direction.
 
-ghost use Rattle.std.specs.Prelude.{◌≡◌, codes, if◌then◌else◌};
-ghost use Rattle.gx_syntax_show.specs.ShownForms as forms;
+ghost use Rattle.std.specs.Prelude.{◌≡◌};
+ghost use Rattle.gx_syntax_show.specs.Words as words;
 
-use gx_syntax_tree::{ActiveWord, CutWord, MergeWord, NeighbourWord, SideWord};
 use gx_rows::ValueKind;
+use gx_syntax_tree::{ActiveWord, CutWord, MergeWord, NeighbourWord, SideWord};
 
 /// The word of a truth value.
 pub(crate) fn truth_word(truth: bool) -> &'static str
-    ensures { result.now ≡ (if truth then codes "true" else codes "false") }
+    ensures { result.now ≡ words.truth_word truth }
 {
     if truth { "true" } else { "false" }
 }
 
-/// The word of a kind.
+/// The word of a column's kind.
 pub(crate) fn kind_word(kind: ValueKind) -> &'static str
-    ensures { result.now ≡ forms.kind_word kind }
+    ensures { result.now ≡ words.kind_word kind }
 {
     match kind {
         ValueKind::Int => "int",
@@ -25,9 +25,9 @@ pub(crate) fn kind_word(kind: ValueKind) -> &'static str
     }
 }
 
-/// The word of a cut.
+/// The word of a way to partition edges.
 pub(crate) fn cut_word(cut: CutWord) -> &'static str
-    ensures { result.now ≡ forms.cut_word cut }
+    ensures { result.now ≡ words.cut_word cut }
 {
     match cut {
         CutWord::OneD => "oned",
@@ -37,9 +37,9 @@ pub(crate) fn cut_word(cut: CutWord) -> &'static str
     }
 }
 
-/// The word of a merge.
+/// The word of a merge of values.
 pub(crate) fn merge_word(merge: MergeWord) -> &'static str
-    ensures { result.now ≡ forms.merge_word merge }
+    ensures { result.now ≡ words.merge_word merge }
 {
     match merge {
         MergeWord::Sum => "sum",
@@ -54,7 +54,7 @@ pub(crate) fn merge_word(merge: MergeWord) -> &'static str
 
 /// The word of an end of an edge.
 pub(crate) fn side_word(side: SideWord) -> &'static str
-    ensures { result.now ≡ forms.side_word side }
+    ensures { result.now ≡ words.side_word side }
 {
     match side {
         SideWord::Src => "src",
@@ -64,7 +64,7 @@ pub(crate) fn side_word(side: SideWord) -> &'static str
 
 /// The word of the neighbours that are collected.
 pub(crate) fn neighbour_word(direction: NeighbourWord) -> &'static str
-    ensures { result.now ≡ forms.neighbour_word direction }
+    ensures { result.now ≡ words.neighbour_word direction }
 {
     match direction {
         NeighbourWord::In => "in",
@@ -73,9 +73,9 @@ pub(crate) fn neighbour_word(direction: NeighbourWord) -> &'static str
     }
 }
 
-/// The word of the edges that send in a round.
+/// The word of the edges that send messages in a round.
 pub(crate) fn active_word(active: ActiveWord) -> &'static str
-    ensures { result.now ≡ forms.active_word active }
+    ensures { result.now ≡ words.active_word active }
 {
     match active {
         ActiveWord::Out => "out",

@@ -1,8 +1,0 @@
-use Rattle.std.proofs.Common.{◌≡◌, take}
-use Rattle.gx_syntax_tokens.specs.Writing.{with_pieces}
-use Rattle.gx_syntax_show.specs.ShownForms.{sends_pieces}
-use Rattle.gx_syntax_show.proofs.sends.put_sends.Given as goal
-
--- the clauses so far are written
-abbrev pub invariant-sends : goal.invariant-sends
-invariant-sends l = l.out ≡ with_pieces l.fn.out (sends_pieces (take l.send-index l.send-items))
