@@ -14,10 +14,10 @@ appended-nothing (Err e) = refl
 
 module _ {A : Type 0} (starts : Terminal → Bool) (p : List Terminal → Result (A × List Terminal) (List Terminal)) where
   -- the items so far, and then at most n - 1 more
-  abbrev pub appended : List A → ℕ → List Terminal → Result (List A × List Terminal) (List Terminal)
-  appended items n = map_value (λ xs. items ++ xs) (many starts p n)
+  abbrev pub appended_within : List A → ℕ → List Terminal → Result (List A × List Terminal) (List Terminal)
+  appended_within items n = map_value (λ xs. items ++ xs) (many starts p n)
 
-  pub appended-all : (items : List A) (n : ℕ) (ts : List Terminal) → n ≡ suc (length ts) → appended items n ts ≡ map_value (λ xs. items ++ xs) (many_while starts p) ts
+  pub appended-all : (items : List A) (n : ℕ) (ts : List Terminal) → n ≡ suc (length ts) → appended_within items n ts ≡ map_value (λ xs. items ++ xs) (many_while starts p) ts
   unfolding many_while
   appended-all items n ts e = rw e refl
 
@@ -35,18 +35,18 @@ module _ {A : Type 0} (starts : Terminal → Bool) (p : List Terminal → Result
   appended_one items x (Ok r) = rw append_assoc refl
   appended_one items x (Err e) = refl
 
-  pub appended-some : (items : List A) (n m : ℕ) (ts rest : List Terminal) (x : A) → n ≡ suc m → is_next starts ts ≡ true → p ts ≡ Ok (x, rest) → appended (items ++ x ∷ []) m rest ≡ appended items n ts
+  pub appended-some : (items : List A) (n m : ℕ) (ts rest : List Terminal) (x : A) → n ≡ suc m → is_next starts ts ≡ true → p ts ≡ Ok (x, rest) → appended_within (items ++ x ∷ []) m rest ≡ appended_within items n ts
   appended-some items n m ts rest x e h r = sym (rw (e, many-some m ts h, r) (appended_one items x (many starts p m rest)))
 
-  pub appended-none : (items : List A) (n m : ℕ) (ts : List Terminal) → n ≡ suc m → is_next starts ts ≡ false → appended items n ts ≡ Ok (items, ts)
+  pub appended-none : (items : List A) (n m : ℕ) (ts : List Terminal) → n ≡ suc m → is_next starts ts ≡ false → appended_within items n ts ≡ Ok (items, ts)
   appended-none items n m ts e h = rw (e, many-none m ts h, append-nil) refl
 
-  pub appended-zero : (items : List A) (n : ℕ) (ts : List Terminal) → n ≡ 0 → appended items n ts ≡ Err ts
+  pub appended-zero : (items : List A) (n : ℕ) (ts : List Terminal) → n ≡ 0 → appended_within items n ts ≡ Err ts
   unfolding many
   appended-zero items n ts e = rw e refl
 
   -- the loop stops with the refusal of an item
   pub appended-stop : (items : List A) (n m : ℕ) (ts rest : List Terminal) (stop : ParseStop) (all : Result (List A × List Terminal) (List Terminal)) → n ≡ suc m → is_next starts ts ≡ true
-      → appended items n ts ≡ all → Parses {A = A} (Err stop) rest (p ts) → Parses {A = List A} (Err stop) rest all
+      → appended_within items n ts ≡ all → Parses {A = A} (Err stop) rest (p ts) → Parses {A = List A} (Err stop) rest all
   appended-stop items n m ts rest stops.Refused all e h i r = sym i ∙ rw (e, many-some m ts h, r) refl
   appended-stop items n m ts rest stops.NoMemory all e h i r = tt

@@ -1,14 +1,16 @@
 -- The statements: each is spelled by its keyword, and then by the parts of its form, in text order.
 --
--- The forms themselves are in specs/Forms.antt of gx_syntax_tree. To add a statement, add it there first; then add its
--- keyword to specs/Keywords.antt and src/keywords.rt, its function to the file of its family, and its arm to `body` in
--- src/script.rt. If it has a part of a new kind, see specs/Parts.antt, and give the part a case in `SpellsPart` and
--- `parse_part`, and in `go_part`, `part_exact`, `is_closed` and `is_closed-stops` of proofs/ExactForms.antt.
+-- The forms themselves are in specs/Forms.antt of gx_syntax_tree. To add a statement, add it there
+-- first; then add its keyword to specs/Keywords.antt and src/keywords.rt, its function to the file of
+-- its family, and its arm to `rest` of src/script.rt. If its form does not begin with `NAME = SOURCE`,
+-- add its case to `has_target` and `rest` here, and its arm to `body` of src/script.rt. If it has a
+-- part of a new kind, see specs/Parts.antt, and give the part a case in `SpellsPart` and `parse_part`
+-- here, and in `goes` and `part_exact` of proofs/ExactForms.antt.
 use Rattle.std.specs.Prelude.{ℕ, Bool, true, false, if◌then◌else◌, Result, Err, List}
 use Rattle.gx_syntax_tokens.specs.Terminals.{Terminal}
 use Rattle.gx_syntax_tokens.specs.declared.symbol.Symbol.{Symbol}
 use Rattle.gx_syntax_tokens.specs.declared.symbol.Symbol.TheVariants as symbols
-use Rattle.gx_syntax_exprs.specs.Combinators.{pure, satisfy, seq, many_while, Empty, Satisfies, Then, Many}
+use Rattle.gx_syntax_exprs.specs.Combinators.{Parser, pure, satisfy, seq, many_while, Empty, Satisfies, Then, Many}
 use Rattle.gx_syntax_exprs.specs.Expressions.{expression}
 use Rattle.gx_syntax_exprs.specs.Grammar.{Spells}
 use Rattle.gx_syntax_exprs.specs.TokenParsers.{expected_symbol, expected_word, name_value, quoted_value, number_value, keyword_value}
@@ -40,7 +42,7 @@ SpellsPart print_target = Satisfies (keyword_value print_target_of)
 SpellsPart counted = Satisfies (keyword_value count_target_of)
 
 -- the parser of a part
-abbrev pub parse_part : (p : Part) → List Terminal → Result (Value p × List Terminal) (List Terminal)
+abbrev pub parse_part : (p : Part) → Parser Terminal (Value p)
 parse_part a_name = satisfy name_value
 parse_part a_text = satisfy quoted_value
 parse_part a_number = satisfy number_value
@@ -72,7 +74,7 @@ SpellsForm (say w f) = Then (Satisfies (expected_word w)) (λ _. SpellsForm f)
 SpellsForm (part p f) = Then (SpellsPart p) (λ x. Then (SpellsForm f) (λ y. Empty (x, y)))
 
 -- its parser, which returns what is made of the values
-abbrev pub parse_form : {A : Type 0} → (f : Form) → (Values f → A) → List Terminal → Result (A × List Terminal) (List Terminal)
+abbrev pub parse_form : {A : Type 0} → (f : Form) → (Values f → A) → Parser Terminal A
 parse_form fin make = pure (make tt)
 parse_form (mark p f) make = seq (satisfy (expected_symbol (symbol_of p))) (λ _. parse_form f make)
 parse_form (say w f) make = seq (satisfy (expected_word w)) (λ _. parse_form f make)
@@ -92,8 +94,10 @@ has_target keywords.Count = false
 has_target _ = true
 
 -- the name and the source
-abbrev pub target : List Terminal → Result ((List ℕ × List ℕ) × List Terminal) (List Terminal)
-target = seq (satisfy name_value) (λ name. seq (satisfy (expected_symbol symbols.Assign)) (λ _. seq (satisfy name_value) (λ source. pure (name, source))))
+abbrev pub target : Parser Terminal (List ℕ × List ℕ)
+target = seq (satisfy name_value) (λ name.
+    seq (satisfy (expected_symbol symbols.Assign)) (λ _.
+    seq (satisfy name_value) (λ source. pure (name, source))))
 
 -- the form without `NAME = SOURCE`
 abbrev pub after_target : Form → Form
@@ -101,27 +105,33 @@ after_target (part p (mark s (part q f))) = f
 after_target _ = fin
 
 -- the rest of a statement after its name and its source; a statement without these is refused
-abbrev pub rest : StmtKeyword → List ℕ → List ℕ → List Terminal → Result (Stmt × List Terminal) (List Terminal)
+abbrev pub rest : StmtKeyword → List ℕ → List ℕ → Parser Terminal Stmt
 rest keywords.Vertices name source ts = Err ts
 rest keywords.Edges name source ts = Err ts
 rest keywords.EdgeList name source ts = Err ts
 rest keywords.Print name source ts = Err ts
 rest keywords.Count name source ts = Err ts
-rest k name source ts = parse_form (after_target (form_of k)) (λ v. stmt_of k (name, (source, v))) ts
+rest k name source ts =
+    parse_form (after_target (form_of k)) (λ v. stmt_of k (name, (source, v))) ts
 
-unfoldable pub body : StmtKeyword → List Terminal → Result (Stmt × List Terminal) (List Terminal)
-body k = if has_target k then seq target (λ t. rest k t.0 t.1) else parse_form (form_of k) (stmt_of k)
+unfoldable pub body : StmtKeyword → Parser Terminal Stmt
+body k =
+    if has_target k then seq target (λ t. rest k t.0 t.1) else parse_form (form_of k) (stmt_of k)
 
 -- a statement and its `;`
 abbrev pub SpellsStatement : List Terminal → Stmt → Type 0
-SpellsStatement = Then (Satisfies (keyword_value keyword_of)) (λ k. Then (SpellsBody k) (λ s. Then (Satisfies (expected_symbol symbols.Semicolon)) (λ _. Empty s)))
+SpellsStatement = Then (Satisfies (keyword_value keyword_of)) (λ k.
+    Then (SpellsBody k) (λ s.
+    Then (Satisfies (expected_symbol symbols.Semicolon)) (λ _. Empty s)))
 
-unfoldable pub statement : List Terminal → Result (Stmt × List Terminal) (List Terminal)
-statement = seq (satisfy (keyword_value keyword_of)) (λ k. seq (body k) (λ s. seq (satisfy (expected_symbol symbols.Semicolon)) (λ _. pure s)))
+unfoldable pub statement : Parser Terminal Stmt
+statement = seq (satisfy (keyword_value keyword_of)) (λ k.
+    seq (body k) (λ s.
+    seq (satisfy (expected_symbol symbols.Semicolon)) (λ _. pure s)))
 
 -- a script: statements up to the end of the tokens
 abbrev pub SpellsScript : List Terminal → List Stmt → Type 0
 SpellsScript = Many SpellsStatement
 
-unfoldable pub script : List Terminal → Result (List Stmt × List Terminal) (List Terminal)
+unfoldable pub script : Parser Terminal (List Stmt)
 script = many_while (λ t. true) statement

@@ -24,7 +24,8 @@ pub record IsOneTooMany (consumed : List Terminal) (t : Terminal) : Type 0 where
 
 -- no token is one too many
 abbrev pub IsShort : List Terminal → Type 0
-IsShort ts = (consumed : List Terminal) (t : Terminal) (rest : List Terminal) → ts ≡ consumed ++ t ∷ rest → ¬ IsOneTooMany consumed t
+IsShort ts = (consumed : List Terminal) (t : Terminal) (rest : List Terminal)
+    → ts ≡ consumed ++ t ∷ rest → ¬ IsOneTooMany consumed t
 
 -- the first token of the rest is one too many, if there is a rest
 abbrev pub Overflows : List Terminal → List Terminal → Type 0

@@ -8,7 +8,8 @@ use Rattle.gx_syntax_stmts.specs.Forms.{SpellsScript}
 use Rattle.gx_syntax_stmts.specs.declared.grammar_stop.GrammarStop.{GrammarStop}
 use Rattle.gx_syntax_stmts.specs.declared.grammar_stop.GrammarStop.TheVariants as stops
 
--- the token after the first n is refused, or the end: these begin some script, and no script goes on with it
+-- the token after the first n, or the end, is refused: these begin some script, and no script goes
+-- on with it
 pub record IsRefusedAt (ts : List Terminal) (n : ℕ) : Type 0 where
   pub within : n ≤ length ts
   pub begins : IsViablePrefix SpellsScript (take n ts)
@@ -28,4 +29,5 @@ IsScript s (Err stops.NoMemory) = Unit {0}
 
 -- tokens spell no more than one script
 abbrev pub ScriptsAreUnique : Type 0
-ScriptsAreUnique = (ts : List Terminal) (s u : List Stmt) → SpellsScript ts s → SpellsScript ts u → s ≡ u
+ScriptsAreUnique =
+    (ts : List Terminal) (s u : List Stmt) → SpellsScript ts s → SpellsScript ts u → s ≡ u

@@ -3,8 +3,8 @@
 /// Why tokens are not a script.
 #[derive(Clone, Copy, Debug, PartialEq, Eq)]
 pub enum GrammarStop {
-    /// How many tokens precede the first with which no script goes on; all of them, if a script goes
-    /// on but does not end.
+    /// How many tokens precede the first with which no script goes on; all of them, if a script
+    /// goes on but does not end.
     At(usize),
     /// Out of memory.
     NoMemory,

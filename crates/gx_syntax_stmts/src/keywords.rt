@@ -1,7 +1,7 @@
 //! The words that name a value.
 //!
-//! Each type implements `Keyword`, by which one word is parsed. specs/Keywords.antt has the words. To
-//! add one, add an arm here and a line there, in the same order.
+//! Each type implements `Keyword`, by which one word is parsed. specs/Keywords.antt has the words.
+//! To add one, add an arm here and a line there, in the same order.
 
 ghost use Rattle.std.specs.Prelude.{◌≡◌, ℕ, List, Option};
 ghost use Rattle.gx_syntax_exprs.specs.Combinators.{satisfy};

@@ -1,10 +1,10 @@
 //! Repetition: values that are parsed one after another while the next token begins one more.
 
-ghost use Rattle.std.specs.Prelude.{◌≡◌, ◌++◌, Bool, List, Result};
+ghost use Rattle.std.specs.Prelude.{◌≡◌, Bool, List, Result};
 ghost use Rattle.gx_syntax_tokens.specs.Terminals.{Terminal};
-ghost use Rattle.gx_syntax_exprs.specs.Combinators.{map_value, many_while};
 ghost use Rattle.gx_syntax_exprs.specs.Parses.{Parses};
 ghost use Rattle.gx_syntax_exprs.specs.TokenParsers.{is_next};
+ghost use Rattle.gx_syntax_stmts.specs.Parts.{appended};
 
 use gx_syntax_exprs::{Cursor, ParseStop};
 use sqlite_items::Items;
@@ -33,7 +33,7 @@ pub(crate) fn many<R: Repeated>(
     alloc: Global,
     items: Items<R::Item>,
 ) -> Result<Items<R::Item>, ParseStop>
-    ensures { Parses result cursor.new (map_value (λ xs. items ++ xs) (many_while R.starts R.parsed) cursor.old) }
+    ensures { Parses result cursor.new (appended items R.starts R.parsed cursor.old) }
 {
     let mut items = items;
     // There are fewer values than tokens.

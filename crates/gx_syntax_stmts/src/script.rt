@@ -1,11 +1,12 @@
 //! Statements and scripts.
 //!
-//! A statement is parsed by its keyword; most then have a name, `=` and a source. To add a statement,
-//! see specs/Forms.antt.
+//! A statement is parsed by its keyword; most then have a name, `=` and a source. To add one, see
+//! specs/Forms.antt.
 
 ghost use Rattle.std.specs.Prelude.{true};
 ghost use Rattle.gx_syntax_exprs.specs.Parses.{Parses, terminals_of};
 ghost use Rattle.gx_syntax_stmts.specs.Forms as forms;
+ghost use Rattle.gx_syntax_stmts.specs.Forms.{SpellsScript};
 ghost use Rattle.gx_syntax_stmts.specs.Refusals.{IsScript, ParsesScript};
 
 use crate::grammar_stop::GrammarStop;
@@ -29,58 +30,47 @@ fn target(cursor: &mut Cursor<'_>, alloc: Global) -> Result<(Text, Text), ParseS
     Ok((name, source))
 }
 
-/// Parses the rest of a statement after its name and its source.
+/// Parses the rest of a statement after its name and its source, which is a graph, or a table for
+/// statements on tables.
 fn rest(
     cursor: &mut Cursor<'_>,
     alloc: Global,
     keyword: StmtKeyword,
     name: Text,
-    source: Text,
+    graph: Text,
 ) -> Result<Stmt, ParseStop>
-    ensures { Parses result cursor.new (forms.rest keyword name source cursor.old) }
+    ensures { Parses result cursor.new (forms.rest keyword name graph cursor.old) }
 {
     match keyword {
-        StmtKeyword::Graph => graphs::graph(cursor, alloc, name, source),
-        StmtKeyword::FromEdges => graphs::from_edges(cursor, alloc, name, source),
-        StmtKeyword::Reverse => Ok(Stmt::Reverse {
-            name,
-            graph: source,
-        }),
-        StmtKeyword::Mask => graphs::mask(cursor, alloc, name, source),
-        StmtKeyword::Subgraph => graphs::subgraph(cursor, alloc, name, source),
-        StmtKeyword::GroupEdges => graphs::group_edges(cursor, alloc, name, source),
-        StmtKeyword::Partition => graphs::partition(cursor, name, source),
-        StmtKeyword::MapVertices => maps::map_vertices(cursor, alloc, name, source),
-        StmtKeyword::MapEdges => maps::map_edges(cursor, alloc, name, source),
-        StmtKeyword::MapTriplets => maps::map_triplets(cursor, alloc, name, source),
-        StmtKeyword::JoinVertices => joins::join_vertices(cursor, alloc, name, source),
-        StmtKeyword::OuterJoin => joins::outer_join(cursor, alloc, name, source),
-        StmtKeyword::Aggregate => messages::aggregate(cursor, alloc, name, source),
-        StmtKeyword::InDegrees => Ok(Stmt::InDegrees {
-            name,
-            graph: source,
-        }),
-        StmtKeyword::OutDegrees => Ok(Stmt::OutDegrees {
-            name,
-            graph: source,
-        }),
-        StmtKeyword::Degrees => Ok(Stmt::Degrees {
-            name,
-            graph: source,
-        }),
-        StmtKeyword::Neighbours => messages::neighbours(cursor, name, source),
-        StmtKeyword::Pregel => messages::pregel(cursor, alloc, name, source),
-        StmtKeyword::Filter => tables::filter(cursor, alloc, name, source),
-        StmtKeyword::MapValues => tables::map_values(cursor, alloc, name, source),
-        StmtKeyword::Minus => tables::minus(cursor, alloc, name, source),
-        StmtKeyword::Diff => tables::diff(cursor, alloc, name, source),
-        StmtKeyword::InnerJoin => tables::inner_join(cursor, alloc, name, source),
-        StmtKeyword::LeftJoin => tables::left_join(cursor, alloc, name, source),
-        StmtKeyword::Vertices => Err(ParseStop::Refused),
-        StmtKeyword::Edges => Err(ParseStop::Refused),
-        StmtKeyword::EdgeList => Err(ParseStop::Refused),
-        StmtKeyword::Print => Err(ParseStop::Refused),
-        StmtKeyword::Count => Err(ParseStop::Refused),
+        StmtKeyword::Graph => graphs::graph(cursor, alloc, name, graph),
+        StmtKeyword::FromEdges => graphs::from_edges(cursor, alloc, name, graph),
+        StmtKeyword::Reverse => Ok(Stmt::Reverse { name, graph }),
+        StmtKeyword::Mask => graphs::mask(cursor, alloc, name, graph),
+        StmtKeyword::Subgraph => graphs::subgraph(cursor, alloc, name, graph),
+        StmtKeyword::GroupEdges => graphs::group_edges(cursor, alloc, name, graph),
+        StmtKeyword::Partition => graphs::partition(cursor, name, graph),
+        StmtKeyword::MapVertices => maps::map_vertices(cursor, alloc, name, graph),
+        StmtKeyword::MapEdges => maps::map_edges(cursor, alloc, name, graph),
+        StmtKeyword::MapTriplets => maps::map_triplets(cursor, alloc, name, graph),
+        StmtKeyword::JoinVertices => joins::join_vertices(cursor, alloc, name, graph),
+        StmtKeyword::OuterJoin => joins::outer_join(cursor, alloc, name, graph),
+        StmtKeyword::Aggregate => messages::aggregate(cursor, alloc, name, graph),
+        StmtKeyword::InDegrees => Ok(Stmt::InDegrees { name, graph }),
+        StmtKeyword::OutDegrees => Ok(Stmt::OutDegrees { name, graph }),
+        StmtKeyword::Degrees => Ok(Stmt::Degrees { name, graph }),
+        StmtKeyword::Neighbours => messages::neighbours(cursor, name, graph),
+        StmtKeyword::Pregel => messages::pregel(cursor, alloc, name, graph),
+        StmtKeyword::Filter => tables::filter(cursor, alloc, name, graph),
+        StmtKeyword::MapValues => tables::map_values(cursor, alloc, name, graph),
+        StmtKeyword::Minus => tables::minus(cursor, alloc, name, graph),
+        StmtKeyword::Diff => tables::diff(cursor, alloc, name, graph),
+        StmtKeyword::InnerJoin => tables::inner_join(cursor, alloc, name, graph),
+        StmtKeyword::LeftJoin => tables::left_join(cursor, alloc, name, graph),
+        StmtKeyword::Vertices
+        | StmtKeyword::Edges
+        | StmtKeyword::EdgeList
+        | StmtKeyword::Print
+        | StmtKeyword::Count => Err(ParseStop::Refused),
     }
 }
 
@@ -146,7 +136,7 @@ fn script(cursor: &mut Cursor<'_>, alloc: Global) -> Result<Items<Stmt>, ParseSt
 /// `At` the first refused token if they spell none, and `NoMemory`.
 pub fn parse_script(alloc: Global, tokens: &[PlacedToken<'_>]) -> Result<Script, GrammarStop>
     ensures parses { ParsesScript (terminals_of tokens.now) result }
-    ensures complete { (s : _) → forms.SpellsScript (terminals_of tokens.now) s → IsScript s result }
+    ensures complete { (s : _) → SpellsScript (terminals_of tokens.now) s → IsScript s result }
 {
     expressions_are_parsed_exactly();
     let mut cursor = Cursor::new(tokens);
