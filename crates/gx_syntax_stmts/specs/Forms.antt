@@ -6,7 +6,7 @@
 -- add its case to `has_target` and `rest` here, and its arm to `body` of src/script.rt. If it has a
 -- part of a new kind, see specs/Parts.antt, and give the part a case in `SpellsPart` and `parse_part`
 -- here, and in `goes` and `part_exact` of proofs/ExactForms.antt.
-use Rattle.std.specs.Prelude.{ℕ, Bool, true, false, if◌then◌else◌, Result, Err, List}
+use Rattle.std.specs.Prelude.{ℕ, Bool, true, false, if◌then◌else◌, Err, List}
 use Rattle.gx_syntax_tokens.specs.Terminals.{Terminal}
 use Rattle.gx_syntax_tokens.specs.declared.symbol.Symbol.{Symbol}
 use Rattle.gx_syntax_tokens.specs.declared.symbol.Symbol.TheVariants as symbols

@@ -3,7 +3,7 @@
 -- Each language (`SpellsX`) has the parser of its words below it (`x`). proofs/ExactParts.antt shows
 -- that the parser parses these words and nothing else. To add a part, define both here, prove that
 -- there, and add its case to specs/Forms.antt.
-use Rattle.std.specs.Prelude.{ℕ, ℤ, pos, neg_ℤ, Bool, true, false, if◌then◌else◌, Option, Some, None, Result, List, [], ◌∷◌, ◌++◌, codes}
+use Rattle.std.specs.Prelude.{ℕ, ℤ, pos, neg_ℤ, Bool, true, false, if◌then◌else◌, Option, Some, None, List, [], ◌∷◌, ◌++◌, codes}
 use Rattle.gx_rows.specs.declared.value.ValueKind.{ValueKind}
 use Rattle.gx_syntax_tokens.specs.Terminals.{Terminal, word, number, quoted, symbol, is_symbol}
 use Rattle.gx_syntax_tokens.specs.declared.symbol.Symbol.TheVariants as symbols
