@@ -9,7 +9,7 @@ use Rattle.gx_syntax_exprs.specs.Expressions.{expression, goes_on, ExpressionsOp
 use Rattle.gx_syntax_exprs.specs.Grammar.{Spells}
 use Rattle.gx_syntax_tree.specs.declared.stmt.Stmt.{Stmt}
 use Rattle.gx_syntax_stmts.specs.Forms.{SpellsScript, SpellsStatement, script, statement}
-use Rattle.gx_syntax_stmts.specs.Refusals.{IsRefusedAt}
+use Rattle.gx_syntax_stmts.specs.Refusals.{IsRefusedAt, IsScriptOutcome}
 use Rattle.gx_syntax_stmts.proofs.ExactForms.{script_go, script_exact}
 
 pub not_both : (ts : List Terminal) (s : List Stmt) (a b : List Terminal) → script ts ≡ Ok (s, a) → script ts ≡ Err b → ⊥
@@ -43,3 +43,7 @@ module _ (exact : IsExact (Spells 1) goes_on expression) (open_ : ExpressionsOpe
 
   pub fewer_remain : (ts rest : List Terminal) → script ts ≡ Err rest → length rest ≤ length ts
   fewer_remain ts rest e = let word = refused SpellsScript script_go script (script_exact exact open_) ts rest e in length-rest ts word.consumed rest word.whole
+
+  pub outcome : (ts : List Terminal) (r : Result (List Stmt × List Terminal) (List Terminal)) → script ts ≡ r → IsScriptOutcome ts r
+  outcome ts (Ok word) e = spells_all ts word.0 word.1 e
+  outcome ts (Err rest) e = refused SpellsScript script_go script (script_exact exact open_) ts rest e

@@ -1,10 +1,10 @@
 -- What `parse_script` returns: the script that the tokens spell, or the first refused token.
 use Rattle.std.specs.Prelude.{◌≡◌, ℕ, ◌≤◌, Result, Ok, Err, List, length, take, drop}
 use Rattle.gx_syntax_tokens.specs.Terminals.{Terminal}
-use Rattle.gx_syntax_exprs.specs.Combinators.{IsViablePrefix, NoWordContinues}
+use Rattle.gx_syntax_exprs.specs.Combinators.{IsRefused, IsViablePrefix, NoWordContinues}
 use Rattle.gx_syntax_tree.specs.declared.script.Script.{Script}
 use Rattle.gx_syntax_tree.specs.declared.stmt.Stmt.{Stmt}
-use Rattle.gx_syntax_stmts.specs.Forms.{SpellsScript}
+use Rattle.gx_syntax_stmts.specs.Forms.{SpellsScript, script}
 use Rattle.gx_syntax_stmts.specs.declared.grammar_stop.GrammarStop.{GrammarStop}
 use Rattle.gx_syntax_stmts.specs.declared.grammar_stop.GrammarStop.TheVariants as stops
 
@@ -31,3 +31,14 @@ IsScript s (Err stops.NoMemory) = Unit {0}
 abbrev pub ScriptsAreUnique : Type 0
 ScriptsAreUnique =
     (ts : List Terminal) (s u : List Stmt) → SpellsScript ts s → SpellsScript ts u → s ≡ u
+
+-- the result of the parser of scripts: the tokens spell the script; or the consumed ones begin some
+-- script, with which the next one, or the end, does not go on
+abbrev pub IsScriptOutcome : List Terminal → Result (List Stmt × List Terminal) (List Terminal)
+    → Type 0
+IsScriptOutcome ts (Ok parsed) = SpellsScript ts parsed.0
+IsScriptOutcome ts (Err rest) = IsRefused SpellsScript ts rest
+
+-- each list of tokens is parsed so
+abbrev pub ScriptsAreParsed : Type 0
+ScriptsAreParsed = (ts : List Terminal) → IsScriptOutcome ts (script ts)

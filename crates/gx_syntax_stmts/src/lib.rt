@@ -23,6 +23,6 @@ mod script;
 mod tables;
 
 pub use grammar_stop::GrammarStop;
-pub use laws::scripts_are_unique;
+pub use laws::{scripts_are_parsed, scripts_are_unique};
 pub use limit::len_within_limit;
 pub use script::parse_script;
