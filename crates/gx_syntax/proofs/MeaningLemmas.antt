@@ -1,4 +1,4 @@
--- A text has one meaning: of its tokens, just those before the first refused place are reached.
+-- A text has no two meanings: of its tokens, those before the first refused one are accepted, and no others.
 use Rattle.std.proofs.Common.{◌≡◌, ℕ, ◌⊎◌, inl, inr, List, [], ◌∷◌, ◌++◌, refl, sym, ◌∙◌, ap, subst, append_assoc}
 use Rattle.std.proofs.lemmas.List.{append-nil, map-append}
 use Rattle.gx_syntax_tokens.specs.SpacedText.{terminals}
@@ -10,24 +10,23 @@ use Rattle.gx_syntax_tree.specs.declared.stmt.Stmt.{Stmt}
 use Rattle.gx_syntax_stmts.specs.Forms.{SpellsScript}
 use Rattle.gx_syntax_stmts.specs.Limits.{IsOneTooMany}
 use Rattle.gx_syntax_stmts.specs.Refusals.{ScriptsAreUnique}
-use Rattle.gx_syntax.specs.Texts.{terminals_in, Spells, Reaches, IsRefused, token, end, break, Meaning, script, refused, long, IsMeaning, HasOneMeaning}
+use Rattle.gx_syntax.specs.Texts.{without_offsets, SpellsWholly, HasAccepted, IsRefusedText, token, end, no_token, Meaning, script, refused, long, IsMeaning}
 
--- of one list cut at two places, what is before the second and not the first
+-- of one list split twice, as f ++ r and as g ++ s: what g has more than f
 record Between {X : Type 0} (f r g s : List X) : Type 0 where
   first : X
   more : List X
   front : g ≡ f ++ first ∷ more
   rest : r ≡ first ∷ more ++ s
 
--- one list cut at two places
-cuts : {X : Type 0} (f r g s : List X) → f ++ r ≡ g ++ s → ((f ≡ g) × (r ≡ s)) ⊎ (Between f r g s ⊎ Between g s f r)
-cuts [] r [] s e = inl (refl, e)
-cuts [] r (b ∷ g) s e = inr (inl (record { first = b; more = g; front = refl; rest = e }))
-cuts (a ∷ f) r [] s e = inr (inr (record { first = a; more = f; front = refl; rest = sym e }))
-cuts (a ∷ f) r (b ∷ g) s e =
+two_splits : {X : Type 0} (f r g s : List X) → f ++ r ≡ g ++ s → ((f ≡ g) × (r ≡ s)) ⊎ (Between f r g s ⊎ Between g s f r)
+two_splits [] r [] s e = inl (refl, e)
+two_splits [] r (b ∷ g) s e = inr (inl (record { first = b; more = g; front = refl; rest = e }))
+two_splits (a ∷ f) r [] s e = inr (inr (record { first = a; more = f; front = refl; rest = sym e }))
+two_splits (a ∷ f) r (b ∷ g) s e =
     let heads : a ≡ b = cc in
     let tails : f ++ r ≡ g ++ s = cc in
-    elim (cuts f r g s tails) [
+    elim (two_splits f r g s tails) [
       | inl h ↦ inl (rw (heads, h.0) refl, h.1)
       | inr h ↦ inr (elim h [
         | inl d ↦ inl (record { first = d.first; more = d.more; front = rw (heads, d.front) refl; rest = d.rest })
@@ -35,115 +34,115 @@ cuts (a ∷ f) r (b ∷ g) s e =
       ])
     ]
 
-terminals_in-cut : (front more : List (ℕ × Terminal)) (p : ℕ × Terminal) → terminals_in (front ++ p ∷ more) ≡ terminals_in front ++ p.1 ∷ terminals_in more
-terminals_in-cut front more p = map-append (λ (q : ℕ × Terminal). q.1) front (p ∷ more)
+without_offsets-split : (front more : List (ℕ × Terminal)) (p : ℕ × Terminal) → without_offsets (front ++ p ∷ more) ≡ without_offsets front ++ p.1 ∷ without_offsets more
+without_offsets-split front more p = map-append (λ (q : ℕ × Terminal). q.1) front (p ∷ more)
 
--- no text with these tokens is reached behind the first of the rest
-abbrev Stops : List (ℕ × Terminal) → List (ℕ × Terminal) → Type 0
-Stops front [] = Unit {0}
-Stops front (p ∷ rest) = IsOneTooMany (terminals_in front) p.1 ⊎ ¬ IsViablePrefix SpellsScript (terminals_in front ++ p.1 ∷ [])
+-- the first token of the rest, if there is one, is not accepted
+abbrev IsBlocked : List (ℕ × Terminal) → List (ℕ × Terminal) → Type 0
+IsBlocked accepted [] = Unit {0}
+IsBlocked accepted (p ∷ rest) = IsOneTooMany (without_offsets accepted) p.1 ⊎ ¬ IsViablePrefix SpellsScript (without_offsets accepted ++ p.1 ∷ [])
 
-begun_before : (ts rest : List Terminal) (t : Terminal) → IsViablePrefix SpellsScript (ts ++ t ∷ rest) → IsViablePrefix SpellsScript (ts ++ t ∷ [])
-begun_before ts rest t b = record {
-  rest = rest ++ b.rest;
-  value = b.value;
-  spells = subst (λ w. SpellsScript w b.value) (simp append_assoc) b.spells;
+viable_before : (ts rest : List Terminal) (t : Terminal) → IsViablePrefix SpellsScript (ts ++ t ∷ rest) → IsViablePrefix SpellsScript (ts ++ t ∷ [])
+viable_before ts rest t v = record {
+  rest = rest ++ v.rest;
+  value = v.value;
+  spells = subst (λ w. SpellsScript w v.value) (simp append_assoc) v.spells;
 }
 
-not_past : (l : TokenStream) (front more rest behind : List (ℕ × Terminal)) (p : ℕ × Terminal) → Stops front (p ∷ behind) → Reaches l (front ++ p ∷ more) rest → ⊥
-not_past l front more rest behind p (inl many) r = r.short (terminals_in front) p.1 (terminals_in more) (terminals_in-cut front more p) many
-not_past l front more rest behind p (inr stuck) r = stuck (begun_before (terminals_in front) (terminals_in more) p.1 (subst (IsViablePrefix SpellsScript) (terminals_in-cut front more p) r.begins))
+none_past : (l : TokenStream) (front more rest after : List (ℕ × Terminal)) (p : ℕ × Terminal) → IsBlocked front (p ∷ after) → HasAccepted l (front ++ p ∷ more) rest → ⊥
+none_past l front more rest after p (inl excess) a = a.short (without_offsets front) p.1 (without_offsets more) (without_offsets-split front more p) excess
+none_past l front more rest after p (inr stuck) a = stuck (viable_before (without_offsets front) (without_offsets more) p.1 (subst (IsViablePrefix SpellsScript) (without_offsets-split front more p) a.viable))
 
-ends_between : (l : TokenStream) (f r g s : List (ℕ × Terminal)) → Between f r g s → Stops f r → Reaches l g s → ⊥
-ends_between l f r g s d h b = not_past l f d.more s (d.more ++ s) d.first (subst (Stops f) d.rest h) (subst (λ front. Reaches l front s) d.front b)
+none_between : (l : TokenStream) (f r g s : List (ℕ × Terminal)) → Between f r g s → IsBlocked f r → HasAccepted l g s → ⊥
+none_between l f r g s d h a = none_past l f d.more s (d.more ++ s) d.first (subst (IsBlocked f) d.rest h) (subst (λ front. HasAccepted l front s) d.front a)
 
--- what is reached, and no further, is the same
-same_cut : (l : TokenStream) (f r g s : List (ℕ × Terminal)) → Reaches l f r → Stops f r → Reaches l g s → Stops g s → (f ≡ g) × (r ≡ s)
-same_cut l f r g s a h b k =
-    elim (cuts f r g s (sym a.all ∙ b.all)) [
+-- tokens are accepted up to a blocked one in one way
+same_split : (l : TokenStream) (f r g s : List (ℕ × Terminal)) → HasAccepted l f r → IsBlocked f r → HasAccepted l g s → IsBlocked g s → (f ≡ g) × (r ≡ s)
+same_split l f r g s a h b k =
+    elim (two_splits f r g s (sym a.whole ∙ b.whole)) [
       | inl same ↦ same
       | inr other ↦ absurd (elim other [
-        | inl d ↦ ends_between l f r g s d h b
-        | inr d ↦ ends_between l g s f r d k a
+        | inl d ↦ none_between l f r g s d h b
+        | inr d ↦ none_between l g s f r d k a
       ])
     ]
 
--- what a text means whose tokens are all reached
-data AtEnd (l : TokenStream) : Meaning → Type 0 where
-  spelled : {place : ℕ} {s : List Stmt} → l.ending ≡ eof place → SpellsScript (terminals l) s → AtEnd l (script s)
-  ended : {place : ℕ} → l.ending ≡ eof place → ((s : List Stmt) → ¬ SpellsScript (terminals l) s) → AtEnd l (refused place Unexpected)
-  broke : {place : ℕ} {kind : SyntaxKind} → l.ending ≡ lex_error place kind → AtEnd l (refused place kind)
+-- what a text means if all of its tokens are accepted
+data MeansAtEnd (l : TokenStream) : Meaning → Type 0 where
+  spelled : {offset : ℕ} {s : List Stmt} → l.ending ≡ eof offset → SpellsScript (terminals l) s → MeansAtEnd l (script s)
+  ended : {offset : ℕ} → l.ending ≡ eof offset → ((s : List Stmt) → ¬ SpellsScript (terminals l) s) → MeansAtEnd l (refused offset Unexpected)
+  errs : {offset : ℕ} {kind : SyntaxKind} → l.ending ≡ lex_error offset kind → MeansAtEnd l (refused offset kind)
 
--- what it means where the next token is not
-data AtToken (front : List (ℕ × Terminal)) (p : ℕ × Terminal) : Meaning → Type 0 where
-  stuck : ¬ IsOneTooMany (terminals_in front) p.1 → ¬ IsViablePrefix SpellsScript (terminals_in front ++ p.1 ∷ []) → AtToken front p (refused p.0 Unexpected)
-  full : IsOneTooMany (terminals_in front) p.1 → AtToken front p (long p.0)
+-- what it means if the next token is not accepted
+data MeansAtToken (accepted : List (ℕ × Terminal)) (p : ℕ × Terminal) : Meaning → Type 0 where
+  stuck : ¬ IsOneTooMany (without_offsets accepted) p.1 → ¬ IsViablePrefix SpellsScript (without_offsets accepted ++ p.1 ∷ []) → MeansAtToken accepted p (refused p.0 Unexpected)
+  full : IsOneTooMany (without_offsets accepted) p.1 → MeansAtToken accepted p (long p.0)
 
-abbrev Behind : TokenStream → List (ℕ × Terminal) → List (ℕ × Terminal) → Meaning → Type 0
-Behind l front [] m = AtEnd l m
-Behind l front (p ∷ rest) m = AtToken front p m
+abbrev MeansAfter : TokenStream → List (ℕ × Terminal) → List (ℕ × Terminal) → Meaning → Type 0
+MeansAfter l accepted [] m = MeansAtEnd l m
+MeansAfter l accepted (p ∷ rest) m = MeansAtToken accepted p m
 
--- how far the tokens of a text with this meaning are reached, and what stands there
-record Told (l : TokenStream) (m : Meaning) : Type 0 where
-  front : List (ℕ × Terminal)
+-- the accepted tokens of a text with this meaning, and the rest
+record SplitsAs (l : TokenStream) (m : Meaning) : Type 0 where
+  accepted : List (ℕ × Terminal)
   rest : List (ℕ × Terminal)
-  reaches : Reaches l front rest
-  behind : Behind l front rest m
+  accepts : HasAccepted l accepted rest
+  means : MeansAfter l accepted rest m
 
-spells_told : (l : TokenStream) (s : List Stmt) → Spells l s → Told l (script s)
-spells_told l s h = record {
-  front = l.tokens;
+splits_script : (l : TokenStream) (s : List Stmt) → SpellsWholly l s → SplitsAs l (script s)
+splits_script l s h = record {
+  accepted = l.tokens;
   rest = [];
-  reaches = record { all = sym (append-nil l.tokens); short = h.short; begins = record { rest = []; value = s; spells = rw (append-nil (terminals l)) h.spells } };
-  behind = spelled h.ends h.spells;
+  accepts = record { whole = sym (append-nil l.tokens); short = h.short; viable = record { rest = []; value = s; spells = rw (append-nil (terminals l)) h.spells } };
+  means = spelled h.ends h.spells;
 }
 
-refused_told : (l : TokenStream) (place : ℕ) (kind : SyntaxKind) → IsRefused l place kind → Told l (refused place kind)
-refused_told l place kind (token {front = front} {rest = rest} {t = t} r fits none) = record { front = front; rest = (place, t) ∷ rest; reaches = r; behind = stuck fits none }
-refused_told l place kind (end r e none) = record { front = l.tokens; rest = []; reaches = r; behind = ended e none }
-refused_told l place kind (break r e) = record { front = l.tokens; rest = []; reaches = r; behind = broke e }
+splits_refused : (l : TokenStream) (offset : ℕ) (kind : SyntaxKind) → IsRefusedText l offset kind → SplitsAs l (refused offset kind)
+splits_refused l offset kind (token {accepted = accepted} {rest = rest} {t = t} a fits none) = record { accepted = accepted; rest = (offset, t) ∷ rest; accepts = a; means = stuck fits none }
+splits_refused l offset kind (end a e none) = record { accepted = l.tokens; rest = []; accepts = a; means = ended e none }
+splits_refused l offset kind (no_token a e) = record { accepted = l.tokens; rest = []; accepts = a; means = errs e }
 
-told : (l : TokenStream) (m : Meaning) → IsMeaning l m → Told l m
-told l (script s) h = spells_told l s h
-told l (refused place kind) h = refused_told l place kind h
-told l (long place) h = record { front = h.front; rest = (place, h.token) ∷ h.rest; reaches = h.reaches; behind = full h.many }
+splits_as : (l : TokenStream) (m : Meaning) → IsMeaning l m → SplitsAs l m
+splits_as l (script s) h = splits_script l s h
+splits_as l (refused offset kind) h = splits_refused l offset kind h
+splits_as l (long offset) h = record { accepted = h.accepted; rest = (offset, h.token) ∷ h.rest; accepts = h.accepts; means = full h.excess }
 
-stops_of : (l : TokenStream) (front rest : List (ℕ × Terminal)) (m : Meaning) → Behind l front rest m → Stops front rest
-stops_of l front [] m h = tt
-stops_of l front (p ∷ rest) m (stuck fits none) = inr none
-stops_of l front (p ∷ rest) m (full many) = inl many
+blocked : (l : TokenStream) (accepted rest : List (ℕ × Terminal)) (m : Meaning) → MeansAfter l accepted rest m → IsBlocked accepted rest
+blocked l accepted [] m h = tt
+blocked l accepted (p ∷ rest) m (stuck fits none) = inr none
+blocked l accepted (p ∷ rest) m (full excess) = inl excess
 
-whole_broken : {place other : ℕ} {kind : SyntaxKind} (e : Ending) → e ≡ eof place → e ≡ lex_error other kind → ⊥
-whole_broken e h k = absurd (cc)
+eof_and_error : {offset other : ℕ} {kind : SyntaxKind} (e : Ending) → e ≡ eof offset → e ≡ lex_error other kind → ⊥
+eof_and_error e h k = absurd (cc)
 
-same_at_end : ScriptsAreUnique → (l : TokenStream) (m n : Meaning) → AtEnd l m → AtEnd l n → m ≡ n
-same_at_end satisfy l m n (spelled {s = s} e d) (spelled {s = u} k c) = ap script (satisfy (terminals l) s u d c)
-same_at_end satisfy l m n (spelled {s = s} e d) (ended k none) = absurd (none s d)
-same_at_end satisfy l m n (spelled e d) (broke k) = absurd (whole_broken l.ending e k)
-same_at_end satisfy l m n (ended e none) (spelled {s = s} k d) = absurd (none s d)
-same_at_end satisfy l m n (ended e none) (ended k no_script) = cc
-same_at_end satisfy l m n (ended e none) (broke k) = absurd (whole_broken l.ending e k)
-same_at_end satisfy l m n (broke e) (spelled k d) = absurd (whole_broken l.ending k e)
-same_at_end satisfy l m n (broke e) (ended k none) = absurd (whole_broken l.ending k e)
-same_at_end satisfy l m n (broke e) (broke k) = cc
+same_at_end : ScriptsAreUnique → (l : TokenStream) (m n : Meaning) → MeansAtEnd l m → MeansAtEnd l n → m ≡ n
+same_at_end unique l m n (spelled {s = s} e d) (spelled {s = u} k c) = ap script (unique (terminals l) s u d c)
+same_at_end unique l m n (spelled {s = s} e d) (ended k none) = absurd (none s d)
+same_at_end unique l m n (spelled e d) (errs k) = absurd (eof_and_error l.ending e k)
+same_at_end unique l m n (ended e none) (spelled {s = s} k d) = absurd (none s d)
+same_at_end unique l m n (ended e none) (ended k no_script) = cc
+same_at_end unique l m n (ended e none) (errs k) = absurd (eof_and_error l.ending e k)
+same_at_end unique l m n (errs e) (spelled k d) = absurd (eof_and_error l.ending k e)
+same_at_end unique l m n (errs e) (ended k none) = absurd (eof_and_error l.ending k e)
+same_at_end unique l m n (errs e) (errs k) = cc
 
-same_at_token : (front : List (ℕ × Terminal)) (p : ℕ × Terminal) (m n : Meaning) → AtToken front p m → AtToken front p n → m ≡ n
-same_at_token front p m n (stuck fits none) (stuck fits' none') = refl
-same_at_token front p m n (stuck fits none) (full many) = absurd (fits many)
-same_at_token front p m n (full many) (stuck fits none) = absurd (fits many)
-same_at_token front p m n (full many) (full many') = refl
+same_at_token : (accepted : List (ℕ × Terminal)) (p : ℕ × Terminal) (m n : Meaning) → MeansAtToken accepted p m → MeansAtToken accepted p n → m ≡ n
+same_at_token accepted p m n (stuck fits none) (stuck fits' none') = refl
+same_at_token accepted p m n (stuck fits none) (full excess) = absurd (fits excess)
+same_at_token accepted p m n (full excess) (stuck fits none) = absurd (fits excess)
+same_at_token accepted p m n (full excess) (full excess') = refl
 
-same_behind : ScriptsAreUnique → (l : TokenStream) (front rest : List (ℕ × Terminal)) (m n : Meaning) → Behind l front rest m → Behind l front rest n → m ≡ n
-same_behind satisfy l front [] m n h k = same_at_end satisfy l m n h k
-same_behind satisfy l front (p ∷ rest) m n h k = same_at_token front p m n h k
+same_after : ScriptsAreUnique → (l : TokenStream) (accepted rest : List (ℕ × Terminal)) (m n : Meaning) → MeansAfter l accepted rest m → MeansAfter l accepted rest n → m ≡ n
+same_after unique l accepted [] m n h k = same_at_end unique l m n h k
+same_after unique l accepted (p ∷ rest) m n h k = same_at_token accepted p m n h k
 
-behind_there : (l : TokenStream) (f r g s : List (ℕ × Terminal)) (m : Meaning) → (f ≡ g) × (r ≡ s) → Behind l g s m → Behind l f r m
-behind_there l f r g s m e h = subst (λ rest. Behind l f rest m) (sym e.1) (subst (λ front. Behind l front s m) (sym e.0) h)
+means_there : (l : TokenStream) (f r g s : List (ℕ × Terminal)) (m : Meaning) → (f ≡ g) × (r ≡ s) → MeansAfter l g s m → MeansAfter l f r m
+means_there l f r g s m e h = subst (λ rest. MeansAfter l f rest m) (sym e.1) (subst (λ front. MeansAfter l front s m) (sym e.0) h)
 
--- a text has one meaning, since tokens spell no more than one script
-pub one_meaning : ScriptsAreUnique → HasOneMeaning
-one_meaning satisfy l m n h k =
-    let a = told l m h in
-    let b = told l n k in
-    let same : (a.front ≡ b.front) × (a.rest ≡ b.rest) = same_cut l a.front a.rest b.front b.rest a.reaches (stops_of l a.front a.rest m a.behind) b.reaches (stops_of l b.front b.rest n b.behind) in
-    same_behind satisfy l a.front a.rest m n a.behind (behind_there l a.front a.rest b.front b.rest n same b.behind)
+-- a text has no two meanings, since tokens spell no more than one script
+pub one_meaning : ScriptsAreUnique → (l : TokenStream) (m n : Meaning) → IsMeaning l m → IsMeaning l n → m ≡ n
+one_meaning unique l m n h k =
+    let a = splits_as l m h in
+    let b = splits_as l n k in
+    let same : (a.accepted ≡ b.accepted) × (a.rest ≡ b.rest) = same_split l a.accepted a.rest b.accepted b.rest a.accepts (blocked l a.accepted a.rest m a.means) b.accepts (blocked l b.accepted b.rest n b.means) in
+    same_after unique l a.accepted a.rest m n a.means (means_there l a.accepted a.rest b.accepted b.rest n same b.means)

@@ -1,3 +1,5 @@
-pub mod Behind
-pub mod ShownBack
+pub mod EndAfter
+pub mod Meanings
+pub mod ParsedBounds
+pub mod RoundTrip
 pub mod Texts

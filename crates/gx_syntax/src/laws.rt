@@ -1,12 +1,25 @@
-//! What holds of texts.
+//! What holds of texts: none has two meanings, and the scripts that they spell are bounded.
 
-ghost use Rattle.gx_syntax.specs.Texts.{HasOneMeaning};
+ghost use Rattle.gx_syntax.specs.Meanings.{HasOneMeaning};
+ghost use Rattle.gx_syntax.specs.ParsedBounds.{SpellsBoundedScripts};
 
+use gx_syntax_show::shown_scripts_are_canonical;
 use gx_syntax_stmts::scripts_are_unique;
+use gx_syntax_tokens::lexed_tokens_are_valid;
 
-/// A text spells one script alone, or is refused at one place for one reason.
+/// No text has two meanings: it spells one script, or it is refused at one offset for one reason.
 pub fn texts_have_one_meaning()
     ensures { HasOneMeaning }
 {
     scripts_are_unique();
+}
+
+/// Each script that some text spells is bounded: a name has at most 64 bytes, a text 1,024, and the
+/// expressions of a statement have at most 2,048 nodes together. The words are in
+/// `specs/Bounds.antt` of `gx_syntax_tree`.
+pub fn parsed_scripts_are_bounded()
+    ensures { SpellsBoundedScripts }
+{
+    lexed_tokens_are_valid();
+    shown_scripts_are_canonical();
 }

@@ -5,17 +5,15 @@ ghost use Rattle.gx_syntax.specs.declared.syntax_stop.SyntaxStop.TheVariants as 
 
 use gx_rows::NoMemory;
 use gx_syntax_tokens::SyntaxKind;
-use std::alloc::{AllocError, AllocFailed};
 
-/// Why a text is no script.
+/// Why a text is not parsed. Offsets are in bytes from the start of the text.
 #[derive(Clone, Copy, Debug, PartialEq, Eq)]
 pub enum SyntaxStop {
-    /// The first refused place, in bytes from the start of the text, and why.
+    /// The first offset at which the text is refused, and why.
     At(u32, SyntaxKind),
-    /// The place, in bytes from the start of the text, of the first token past the 2,048 that a
-    /// statement may have.
+    /// The offset of the first token that is one too many: a statement may have 2,048.
     Long(u32),
-    /// Want of memory.
+    /// Out of memory.
     NoMemory,
 }
 
@@ -23,22 +21,6 @@ impl From<NoMemory> for SyntaxStop {
     ghost from_gives = { λ _ stop. stop ≡ stops.NoMemory };
 
     fn from(_error: NoMemory) -> SyntaxStop {
-        SyntaxStop::NoMemory
-    }
-}
-
-impl From<AllocError> for SyntaxStop {
-    ghost from_gives = { λ _ stop. stop ≡ stops.NoMemory };
-
-    fn from(_error: AllocError) -> SyntaxStop {
-        SyntaxStop::NoMemory
-    }
-}
-
-impl<T: Drop> From<AllocFailed<T>> for SyntaxStop {
-    ghost from_gives = { λ _ stop. stop ≡ stops.NoMemory };
-
-    fn from(_error: AllocFailed<T>) -> SyntaxStop {
         SyntaxStop::NoMemory
     }
 }
