@@ -1,5 +1,5 @@
 -- A script is bounded if its lines are valid and short.
-use Rattle.std.proofs.Common.{◌≤◌, List, [], ◌∷◌, map, length, arith}
+use Rattle.std.proofs.Common.{◌≤◌, List, [], ◌∷◌, length, arith}
 use Rattle.std.proofs.lemmas.List.Elements.{All-nil, All-cons}
 use Rattle.gx_syntax_tokens.specs.SpacedText.{token, AreValidLines, terminals_of_lines}
 use Rattle.gx_syntax_tokens.specs.Terminals.{symbol}

@@ -1,5 +1,4 @@
 pub mod BoundedScripts
-pub mod ComputedMeanings
 pub mod MeaningLemmas
 pub mod OpenStatements
 pub mod ParserLemmas

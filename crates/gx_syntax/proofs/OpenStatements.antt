@@ -1,10 +1,10 @@
 -- Tokens none of which is one too many, where n tokens of the first statement come before them.
-use Rattle.std.proofs.Common.{◌≡◌, ℕ, suc, ◌+◌, ◌<◌, ◌≤◌, nat_le, Bool, true, false, if◌then◌else◌, List, [], ◌∷◌, ◌++◌, length, take, drop, map, refl, sym, ap, subst, arith}
+use Rattle.std.proofs.Common.{◌≡◌, ℕ, suc, ◌+◌, ◌<◌, ◌≤◌, Bool, true, false, if◌then◌else◌, List, [], ◌∷◌, ◌++◌, length, take, drop, map, refl, ap, subst, arith}
 use Rattle.std.proofs.lemmas.Bool.{leb-true}
 use Rattle.gx_syntax_tokens.specs.SpacedText.{Piece, token, terminal}
 use Rattle.gx_syntax_tokens.specs.Terminals.{Terminal, symbol}
 use Rattle.gx_syntax_tokens.specs.declared.symbol.Symbol.TheVariants as symbols
-use Rattle.gx_syntax_stmts.specs.Limits.{most_tokens, counted, open_len, IsOneTooMany, IsShort, IsWithinLimit, Overflows}
+use Rattle.gx_syntax_stmts.specs.Limits.{most_tokens, counted, open_len, IsShort, IsWithinLimit, Overflows}
 use Rattle.gx_syntax.specs.Meanings.{is_semicolon, is_excess, allowed_len}
 use Rattle.gx_syntax.proofs.ShownBounds.{HasNoSemicolon}
 

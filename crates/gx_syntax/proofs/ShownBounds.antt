@@ -1,15 +1,15 @@
 -- Each name, text and node of a tree has a token of its own among those that are shown for the tree.
 -- So what holds of the tokens, that each is valid and that a statement has at most 2,048, bounds the tree.
-use Rattle.std.proofs.Common.{◌≡◌, ℕ, suc, ◌+◌, ◌≤◌, max, nat_le, Bool, true, false, if◌then◌else◌, Option, None, Some, pos, negsuc, List, [], ◌∷◌, ◌++◌, length, map, refl, sym, ◌∙◌, ap, subst, arith, length-append}
+use Rattle.std.proofs.Common.{◌≡◌, ℕ, suc, ◌+◌, ◌≤◌, nat_le, Bool, true, false, if◌then◌else◌, Option, None, Some, pos, negsuc, List, [], ◌∷◌, ◌++◌, length, map, refl, ap, subst, arith, length-append}
 use Rattle.std.specs.Prelude.{All, flat_map, sum, sum_by, slice_index_or, codes}
 use Rattle.std.proofs.lemmas.List.Elements.{All-nil, All-cons, All-head, All-tail, All-append, All-map, All-weaker}
 use Rattle.std.proofs.lemmas.List.Sums.{sum_by-cons, sum_by-append, get_or-le-sum_by}
 use Rattle.gx_syntax_tokens.specs.SpacedText.{Piece, token, sign, function, terminal, AreValid}
-use Rattle.gx_syntax_tokens.specs.Terminals.{Terminal, word, number, quoted, symbol}
+use Rattle.gx_syntax_tokens.specs.Terminals.{word, number, quoted, symbol}
 use Rattle.gx_syntax_tokens.specs.Validity.{IsValid}
 use Rattle.gx_syntax_tokens.specs.declared.symbol.Symbol.TheVariants as symbols
 use Rattle.gx_syntax_exprs.specs.Operators.{infix_token}
-use Rattle.gx_syntax_tree.specs.Bounds.{greatest, names_in_layer, names_in_expr, names_in_expr-roll, texts_in_layer, texts_in_expr, texts_in_expr-roll, node_count_of_layer, node_count, node_count-roll, depth_of_layer, depth, depth-roll, exprs_if, exprs_in_part, names_in_part, texts_in_const, texts_in_part, over_parts, over_stmt, exprs_in_stmt, IsBoundedName, IsBoundedText, IsBoundedExpr, IsBoundedStmt}
+use Rattle.gx_syntax_tree.specs.Bounds.{greatest, names_in_layer, names_in_expr, names_in_expr-roll, texts_in_layer, texts_in_expr, texts_in_expr-roll, node_count_of_layer, node_count, node_count-roll, depth_of_layer, depth, depth-roll, exprs_if, exprs_in_part, names_in_part, texts_in_const, texts_in_part, over_parts, over_stmt, exprs_in_stmt, IsBoundedName, IsBoundedText, IsBoundedStmt}
 use Rattle.gx_syntax_tree.specs.Forms.{Part, a_name, a_text, a_number, a_cut, a_neighbour, columns, sets, consts, named, merges, sends, condition, subgraph_filter, oriented, active, print_target, counted, Value, Punctuation, equals, comma, Form, fin, mark, say, part, Values, form_of, view_of}
 use Rattle.gx_syntax_tree.specs.Precedence.{binary_precedence, unary_precedence}
 use Rattle.gx_syntax_tree.specs.declared.constant.ColumnConst.{ColumnConst}

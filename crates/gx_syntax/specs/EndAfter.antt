@@ -8,5 +8,6 @@ use Rattle.gx_syntax.specs.declared.syntax_stop.SyntaxStop.TheVariants.{At, Long
 abbrev pub EndsAfter : TokenStream → ℕ → Result ℕ SyntaxStop → Type 0
 EndsAfter l n (Ok offset) = (drop n l.tokens ≡ []) × (l.ending ≡ eof offset)
 EndsAfter l n (Err (At offset kind)) = (drop n l.tokens ≡ []) × (l.ending ≡ lex_error offset kind)
-EndsAfter l n (Err (Long offset)) = (t : Terminal) × (rest : List (ℕ × Terminal)) × (drop n l.tokens ≡ (offset, t) ∷ rest)
+EndsAfter l n (Err (Long offset)) =
+    (t : Terminal) × (rest : List (ℕ × Terminal)) × (drop n l.tokens ≡ (offset, t) ∷ rest)
 EndsAfter l n (Err NoMemory) = ⊥

@@ -1,5 +1,5 @@
--- The one meaning that each text has, as a function that computes.
-use Rattle.std.specs.Prelude.{◌≡◌, ◌↔◌, ℕ, suc, ◌-◌, nat_le, Bool, true, false, if◌then◌else◌, Option, None, Some, Result, Ok, Err, List, [], ◌∷◌, length, take, drop, codes, refl}
+-- The meaning of a text, as a function that computes.
+use Rattle.std.specs.Prelude.{◌≡◌, ℕ, suc, ◌-◌, nat_le, Bool, true, false, if◌then◌else◌, Option, None, Some, Result, Ok, Err, List, [], ◌∷◌, length, take, drop, codes, refl}
 use Rattle.gx_syntax_tokens.specs.Lexing.{tokens_of, tokens_from, trivia_len, token_at, word_at, bom_len}
 use Rattle.gx_syntax_tokens.specs.SpacedText.{terminals}
 use Rattle.gx_syntax_tokens.specs.Terminals.{Terminal, Ending, eof, lex_error, TokenStream, is_symbol}
@@ -31,8 +31,8 @@ allowed_len n [] = 0
 allowed_len n (t ∷ ts) =
     if is_excess (is_semicolon t) n then 0 else suc (allowed_len (counted (is_semicolon t) n) ts)
 
--- the meaning of a text all of whose allowed tokens are accepted, by what follows them: the end of
--- the text, where it has the given meaning; no token, for a reason; or one token too many
+-- the meaning of a text all of whose allowed tokens are accepted, by what follows them: at the end of
+-- the text the given meaning; if no token begins there, a refusal; or else one token is too many
 abbrev pub meaning_at : List (ℕ × Terminal) → Ending → (ℕ → Meaning) → Meaning
 meaning_at [] (eof offset) at_end = at_end offset
 meaning_at [] (lex_error offset kind) at_end = refused offset kind
@@ -42,13 +42,16 @@ abbrev pub first_offset : List (ℕ × Terminal) → ℕ
 first_offset [] = 0
 first_offset (p ∷ ps) = p.0
 
--- the meaning of a text whose first n tokens are allowed, by what they parse to: the script that they
--- spell; or, if they only begin one, a refusal at the end; or a refusal at the first token that is
--- refused, with which `rest` begins
-abbrev pub meaning_by : TokenStream → ℕ → Result (List Stmt × List Terminal) (List Terminal) → Meaning
+-- the meaning of a text whose first n tokens are allowed, by what they parse to: the script that
+-- they spell; or, if they only begin one, a refusal at the end; or a refusal at the first refused
+-- token, with which `rest` begins
+abbrev pub meaning_by : TokenStream → ℕ
+    → Result (List Stmt × List Terminal) (List Terminal) → Meaning
 meaning_by l n (Ok parsed) = meaning_at (drop n l.tokens) l.ending (λ offset. script parsed.0)
-meaning_by l n (Err []) = meaning_at (drop n l.tokens) l.ending (λ offset. refused offset Unexpected)
-meaning_by l n (Err (t ∷ rest)) = refused (first_offset (drop (n - length (t ∷ rest)) l.tokens)) Unexpected
+meaning_by l n (Err []) =
+    meaning_at (drop n l.tokens) l.ending (λ offset. refused offset Unexpected)
+meaning_by l n (Err (t ∷ rest)) =
+    refused (first_offset (drop (n - length (t ∷ rest)) l.tokens)) Unexpected
 
 -- the meaning of a text whose first n tokens are allowed
 abbrev pub meaning_within : TokenStream → ℕ → Meaning
@@ -62,9 +65,9 @@ meaning_of_tokens l = meaning_within l (allowed_len 0 (terminals l))
 abbrev pub meaning_of : List ℕ → Meaning
 meaning_of text = meaning_of_tokens (tokens_of text)
 
--- each text has this meaning, and no other
+-- no text has two meanings
 abbrev pub HasOneMeaning : Type 0
-HasOneMeaning = (l : TokenStream) (m : Meaning) → IsMeaning l m ↔ (m ≡ meaning_of_tokens l)
+HasOneMeaning = (l : TokenStream) (m n : Meaning) → IsMeaning l m → IsMeaning l n → m ≡ n
 
 -- the meaning that a result claims for the text; out of memory, it claims none
 abbrev pub meaning_of_result : Result Script SyntaxStop → Option Meaning

@@ -1,5 +1,5 @@
--- Texts and the scripts that they spell; for other texts, where and why they are refused. Offsets are
--- in bytes from the start of the text. Nothing here computes: specs/Meanings.antt does.
+-- Texts and the scripts that they spell; for other texts, where and why they are refused. Offsets
+-- are in bytes from the start of the text. Nothing here computes: specs/Meanings.antt does.
 use Rattle.std.specs.Prelude.{◌≡◌, ℕ, List, [], ◌∷◌, ◌++◌, map}
 use Rattle.gx_syntax_tokens.specs.Lexing.{tokens_of}
 use Rattle.gx_syntax_tokens.specs.SpacedText.{terminals}
@@ -36,14 +36,17 @@ pub record HasAccepted (l : TokenStream) (accepted rest : List (ℕ × Terminal)
 -- the text is refused at the offset, for this reason
 pub data IsRefusedText (l : TokenStream) : ℕ → SyntaxKind → Type 0 where
   -- a token is there, not one too many, with which no script goes on
-  token : {accepted rest : List (ℕ × Terminal)} {offset : ℕ} {t : Terminal} → HasAccepted l accepted ((offset, t) ∷ rest)
+  token : {accepted rest : List (ℕ × Terminal)} {offset : ℕ} {t : Terminal}
+      → HasAccepted l accepted ((offset, t) ∷ rest)
       → ¬ IsOneTooMany (without_offsets accepted) t
-      → ¬ IsViablePrefix SpellsScript (without_offsets accepted ++ t ∷ []) → IsRefusedText l offset Unexpected
+      → ¬ IsViablePrefix SpellsScript (without_offsets accepted ++ t ∷ [])
+      → IsRefusedText l offset Unexpected
   -- the text ends there, and its tokens begin a script but spell none
   end : {offset : ℕ} → HasAccepted l l.tokens [] → l.ending ≡ eof offset
       → ((s : List Stmt) → ¬ SpellsScript (terminals l) s) → IsRefusedText l offset Unexpected
   -- no token begins there
-  no_token : {offset : ℕ} {kind : SyntaxKind} → HasAccepted l l.tokens [] → l.ending ≡ lex_error offset kind → IsRefusedText l offset kind
+  no_token : {offset : ℕ} {kind : SyntaxKind} → HasAccepted l l.tokens []
+      → l.ending ≡ lex_error offset kind → IsRefusedText l offset kind
 
 -- the token at the offset is one too many for its statement
 pub record IsTooLongText (l : TokenStream) (offset : ℕ) : Type 0 where

@@ -1,11 +1,11 @@
 //! The script language: texts to scripts, and scripts to their canonical texts.
 //!
 //! `parse` returns the script that a text spells, or where and why the text is refused;
-//! `specs/Texts.antt` says what a text means, and `specs/Meanings.antt` computes it. `show` returns a
-//! script's canonical text, which `parse` takes back to that script. The crate depends on the tokens,
-//! the parser of statements and the printer, and names their public types again, so that the crates
-//! above need no other crate of the language. It never sees a byte of a token, nor a production of
-//! the grammar.
+//! `specs/Texts.antt` says what a text means, and `specs/Meanings.antt` computes it. `show` returns
+//! a script's canonical text, which `parse` takes back to that script. The crate depends on the
+//! lexer, the parser of statements and the printer, and names their public types again, so that the
+//! crates above need no other crate of the language. It never sees a byte of a token, nor a
+//! production of the grammar.
 #![tactic(auto)]
 
 mod laws;

@@ -1,13 +1,13 @@
-//! Parses texts: lexes a text, finds where its first statement grows too long, parses the tokens
-//! before that, and says which of these comes first in the text.
+//! Parses texts: lexes a text, finds the first token that is one too many for its statement, parses
+//! the tokens before it, and reports whichever comes first in the text.
 //!
-//! The module never looks at a byte, nor at the grammar. To change a limit, change `len_within_limit`
-//! in `gx_syntax_stmts`; to report another stop, add its meaning in `specs/Meanings.antt`.
+//! The module never looks at a byte, nor at the grammar. The limit is that of `len_within_limit` in
+//! `gx_syntax_stmts`. To report another stop, add its meaning in `specs/Meanings.antt`.
 
 ghost use Rattle.std.specs.Prelude.{◌≡◌, ◌<◌, ◌^◌, IfSome, length};
 ghost use Rattle.gx_syntax_tokens.specs.TokenTexts.{token_stream_of};
 ghost use Rattle.gx_syntax.specs.EndAfter.{EndsAfter};
-ghost use Rattle.gx_syntax.specs.Meanings.{meaning_of, meaning_of_result};
+ghost use Rattle.gx_syntax.specs.Meanings.{meaning_of_result};
 ghost use Rattle.gx_syntax.specs.Texts.{IsMeaning};
 
 use crate::SyntaxStop;
@@ -61,9 +61,11 @@ fn parse_tokens(
 /// the text; and `NoMemory`.
 pub fn parse(alloc: Global, text: &str) -> Result<Script, SyntaxStop>
     requires { length text.now < 2 ^ 32 }
-    ensures means { IfSome (meaning_of_result result) (λ m. m ≡ meaning_of text.now) }
+    ensures means { IfSome (meaning_of_result result) (IsMeaning (tokens_of text.now)) }
+    ensures means_nothing_else { (m : _) → IsMeaning (tokens_of text.now) m
+        → IfSome (meaning_of_result result) (λ n. n ≡ m) }
 {
-    // By this law the meaning that the result claims is the one that the text has.
+    // By this law the text has no other meaning than the one that the result claims.
     texts_have_one_meaning();
     let (tokens, end) = lex(alloc, text)?;
     parse_tokens(alloc, tokens.as_slice(), end)

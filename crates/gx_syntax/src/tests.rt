@@ -1,5 +1,5 @@
-//! Tables of texts with what `parse` and `show` return for them. The expected values are from the rules
-//! of the language and by hand.
+//! Tables of texts with what `parse` and `show` return for them. The expected values are from the
+//! rules of the language and by hand.
 
 mod levels;
 mod limits;

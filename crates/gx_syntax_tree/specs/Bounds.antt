@@ -1,7 +1,7 @@
 -- How large a script may be: what the type checker relies on.
 --
--- Everything is defined over the parts of a statement, so a new statement needs no new line here; a
--- new kind of expression needs its line in each step of a fold if it has a name, a text or operands.
+-- Everything is defined over the parts of a statement, so a new statement needs no new line here. A
+-- new kind of expression that has a name, a text or operands needs its line in the steps of folds.
 use Rattle.std.specs.Prelude.{◌≡◌, ℕ, suc, ◌+◌, ◌≤◌, max, Option, None, Some, List, [], ◌∷◌, ◌++◌, length, map, flat_map, sum, sum_by, All, codes, refl}
 use Rattle.std.proofs.Common.{ap, ◌∙◌}
 use Rattle.gx_syntax_tree.specs.declared.constant.Const.{Const}
@@ -95,7 +95,8 @@ texts_in_part named cs = flat_map (λ c. texts_in_const c.value) cs
 texts_in_part _ v = []
 
 -- what the parts of a form have, in text order
-abbrev pub over_parts : {A : Type 0} → ((p : Part) → Value p → List A) → (f : Form) → Values f → List A
+abbrev pub over_parts : {A : Type 0} → ((p : Part) → Value p → List A) → (f : Form) → Values f
+    → List A
 over_parts f_of fin v = []
 over_parts f_of (mark s f) v = over_parts f_of f v
 over_parts f_of (say w f) v = over_parts f_of f v
@@ -121,8 +122,8 @@ pub record IsBoundedExpr (x : Expr) : Type 0 where
   pub texts : All IsBoundedText (texts_in_expr x)
   pub depth_bounded : depth x ≤ 2048
 
--- a statement has bounded names, texts and expressions, and its expressions have at most 2,048 nodes
--- together
+-- a statement has bounded names, texts and expressions, and its expressions have at most 2,048
+-- nodes together
 pub record IsBoundedStmt (s : Stmt) : Type 0 where
   pub names : All IsBoundedName (over_stmt names_in_part s)
   pub texts : All IsBoundedText (over_stmt texts_in_part s)
@@ -135,13 +136,16 @@ AreBounded s = All IsBoundedStmt s
 
 -- each of these for an expression, by those of its operands
 
-pub names_in_expr-roll : (x : Expr-F Expr) → names_in_expr (roll-Expr x) ≡ names_in_layer (map-Expr Expr (List (List ℕ)) names_in_expr x)
+pub names_in_expr-roll : (x : Expr-F Expr)
+    → names_in_expr (roll-Expr x) ≡ names_in_layer (map-Expr Expr (List (List ℕ)) names_in_expr x)
 names_in_expr-roll x = fold-roll-Expr (List (List ℕ)) names_in_layer x
 
-pub texts_in_expr-roll : (x : Expr-F Expr) → texts_in_expr (roll-Expr x) ≡ texts_in_layer (map-Expr Expr (List (List ℕ)) texts_in_expr x)
+pub texts_in_expr-roll : (x : Expr-F Expr)
+    → texts_in_expr (roll-Expr x) ≡ texts_in_layer (map-Expr Expr (List (List ℕ)) texts_in_expr x)
 texts_in_expr-roll x = fold-roll-Expr (List (List ℕ)) texts_in_layer x
 
-pub node_count-roll : (x : Expr-F Expr) → node_count (roll-Expr x) ≡ node_count_of_layer (map-Expr Expr ℕ node_count x)
+pub node_count-roll : (x : Expr-F Expr)
+    → node_count (roll-Expr x) ≡ node_count_of_layer (map-Expr Expr ℕ node_count x)
 node_count-roll x = fold-roll-Expr ℕ node_count_of_layer x
 
 pub depth-roll : (x : Expr-F Expr) → depth (roll-Expr x) ≡ depth_of_layer (map-Expr Expr ℕ depth x)
@@ -160,5 +164,6 @@ negated-bounds =
     )
 
 -- a statement has the names and the expressions of its parts
-filter-parts : (over_stmt names_in_part (stmts.Filter (codes "t") (codes "s") negated) ≡ codes "t" ∷ codes "s" ∷ []) × (exprs_in_stmt (stmts.Filter (codes "t") (codes "s") negated) ≡ negated ∷ [])
+filter-parts : (over_stmt names_in_part (stmts.Filter (codes "t") (codes "s") negated) ≡ codes "t" ∷ codes "s" ∷ [])
+    × (exprs_in_stmt (stmts.Filter (codes "t") (codes "s") negated) ≡ negated ∷ [])
 filter-parts = (refl, refl)
