@@ -1,4 +1,5 @@
 pub mod BoundedScripts
+pub mod ComputedMeanings
 pub mod MeaningLemmas
 pub mod OpenStatements
 pub mod ParserLemmas

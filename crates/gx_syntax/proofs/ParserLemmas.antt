@@ -15,7 +15,7 @@ use Rattle.gx_syntax_stmts.specs.Forms.{SpellsScript}
 use Rattle.gx_syntax_stmts.specs.Limits.{IsWithinLimit}
 use Rattle.gx_syntax_stmts.specs.Refusals.{IsRefusedAt}
 use Rattle.gx_syntax.specs.EndAfter.{EndsAfter}
-use Rattle.gx_syntax.specs.Meanings.{HasOneMeaning, meaning_of_result}
+use Rattle.gx_syntax.specs.Meanings.{HasOneMeaning, meaning_of_result, meaning_of_tokens}
 use Rattle.gx_syntax.specs.Texts.{IsMeaning, IsRefusedText, Meaning, SpellsWholly}
 use Rattle.gx_syntax.specs.declared.syntax_stop.SyntaxStop.{SyntaxStop}
 use Rattle.gx_syntax.proofs.TextLemmas.{viable_all, refused_after, refused_end, refused_token, spells_all}
@@ -65,7 +65,7 @@ module _ (tokens : List PlacedToken) (e : LexEnd) (n : ℕ) (k : IsWithinLimit (
     pub refused_at_token : (d : PlacedToken) → at < n → IsRefusedText (token_stream_of tokens e) (get_or tokens at d).start Unexpected
     refused_at_token d h = refused_token (token_stream_of tokens e) n at (get_or tokens at d).start (terminal_of (get_or tokens at d).value) (map placed_of (drop (at + 1) tokens)) within_limit refused_first h (next_placed tokens at d (omega (arith, k.within, length-terminals_of tokens)))
 
--- a meaning that is claimed for a text is its only one
-pub only_claimed : HasOneMeaning → (l : TokenStream) (claim : Option Meaning) → IfSome claim (IsMeaning l) → (m : Meaning) → IsMeaning l m → IfSome claim (λ n. n ≡ m)
-only_claimed one l None h m k = tt
-only_claimed one l (Some n) h m k = one l n m h k
+-- a meaning that a text has is the one that is computed for it
+pub claimed : HasOneMeaning → (l : TokenStream) (claim : Option Meaning) → IfSome claim (IsMeaning l) → IfSome claim (λ m. m ≡ meaning_of_tokens l)
+claimed one l None h = tt
+claimed one l (Some m) h = (one l m).0 h

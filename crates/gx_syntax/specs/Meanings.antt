@@ -1,5 +1,5 @@
--- The meaning of a text, as a function that computes.
-use Rattle.std.specs.Prelude.{◌≡◌, ℕ, suc, ◌-◌, nat_le, Bool, true, false, if◌then◌else◌, Option, None, Some, Result, Ok, Err, List, [], ◌∷◌, length, take, drop, codes, refl}
+-- The one meaning that each text has, as a function that computes.
+use Rattle.std.specs.Prelude.{◌≡◌, ◌↔◌, ℕ, suc, ◌-◌, nat_le, Bool, true, false, if◌then◌else◌, Option, None, Some, Result, Ok, Err, List, [], ◌∷◌, length, take, drop, codes, refl}
 use Rattle.gx_syntax_tokens.specs.Lexing.{tokens_of, tokens_from, trivia_len, token_at, word_at, bom_len}
 use Rattle.gx_syntax_tokens.specs.SpacedText.{terminals}
 use Rattle.gx_syntax_tokens.specs.Terminals.{Terminal, Ending, eof, lex_error, TokenStream, is_symbol}
@@ -65,9 +65,9 @@ meaning_of_tokens l = meaning_within l (allowed_len 0 (terminals l))
 abbrev pub meaning_of : List ℕ → Meaning
 meaning_of text = meaning_of_tokens (tokens_of text)
 
--- no text has two meanings
+-- each text has this meaning, and no other
 abbrev pub HasOneMeaning : Type 0
-HasOneMeaning = (l : TokenStream) (m n : Meaning) → IsMeaning l m → IsMeaning l n → m ≡ n
+HasOneMeaning = (l : TokenStream) (m : Meaning) → IsMeaning l m ↔ (m ≡ meaning_of_tokens l)
 
 -- the meaning that a result claims for the text; out of memory, it claims none
 abbrev pub meaning_of_result : Result Script SyntaxStop → Option Meaning

@@ -7,7 +7,7 @@
 ghost use Rattle.std.specs.Prelude.{◌≡◌, ◌<◌, ◌^◌, IfSome, length};
 ghost use Rattle.gx_syntax_tokens.specs.TokenTexts.{token_stream_of};
 ghost use Rattle.gx_syntax.specs.EndAfter.{EndsAfter};
-ghost use Rattle.gx_syntax.specs.Meanings.{meaning_of_result};
+ghost use Rattle.gx_syntax.specs.Meanings.{meaning_of, meaning_of_result};
 ghost use Rattle.gx_syntax.specs.Texts.{IsMeaning};
 
 use crate::SyntaxStop;
@@ -61,11 +61,9 @@ fn parse_tokens(
 /// the text; and `NoMemory`.
 pub fn parse(alloc: Global, text: &str) -> Result<Script, SyntaxStop>
     requires { length text.now < 2 ^ 32 }
-    ensures means { IfSome (meaning_of_result result) (IsMeaning (tokens_of text.now)) }
-    ensures means_nothing_else { (m : _) → IsMeaning (tokens_of text.now) m
-        → IfSome (meaning_of_result result) (λ n. n ≡ m) }
+    ensures means { IfSome (meaning_of_result result) (λ m. m ≡ meaning_of text.now) }
 {
-    // By this law the text has no other meaning than the one that the result claims.
+    // By this law the meaning that the result claims is the one that the text has.
     texts_have_one_meaning();
     let (tokens, end) = lex(alloc, text)?;
     parse_tokens(alloc, tokens.as_slice(), end)

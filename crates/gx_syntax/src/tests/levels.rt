@@ -1,4 +1,4 @@
-//! What operators bind, by how expressions are shown, and the offsets at which expressions are refused.
+//! What operators bind, by how expressions are shown, and where expressions are refused.
 
 use super::support::{assert_outcomes, assert_shown_expressions};
 use std::test::Fail;
