@@ -153,9 +153,6 @@ covered-roll x h l =
 abbrev Covered : Type 0
 Covered = (x : Expr) × IsCovered x
 
-exprs_of : List Covered → List Expr
-exprs_of ys = map (λ y. y.0) ys
-
 abbrev call_leaves : List Covered → Type 0
 call_leaves ys = HasBoundedLeaves (flat_map (λ x. x) (map names_in_expr (map (λ y. y.0) ys))) (flat_map (λ x. x) (map texts_in_expr (map (λ y. y.0) ys)))
 
