@@ -1,0 +1,66 @@
+//! Operators and functions. What they mean is in specs/.
+
+/// A prefix operator.
+#[derive(Clone, Copy, Debug, PartialEq, Eq)]
+pub enum UnaryOp {
+    /// `-a`
+    Neg,
+    /// `not a`
+    Not,
+}
+
+/// An infix operator.
+#[derive(Clone, Copy, Debug, PartialEq, Eq)]
+pub enum BinaryOp {
+    /// `a + b`
+    Add,
+    /// `a - b`
+    Sub,
+    /// `a * b`
+    Mul,
+    /// `a / b`, truncated toward zero.
+    Div,
+    /// `a % b`, with the sign of `a`.
+    Rem,
+    /// `a == b`
+    Eq,
+    /// `a != b`
+    Ne,
+    /// `a < b`
+    Lt,
+    /// `a <= b`
+    Le,
+    /// `a > b`
+    Gt,
+    /// `a >= b`
+    Ge,
+    /// `a and b`
+    And,
+    /// `a or b`
+    Or,
+}
+
+/// A function.
+#[derive(Clone, Copy, Debug, PartialEq, Eq)]
+pub enum Function {
+    /// `if(condition, a, b)`
+    If,
+    /// `min(a, b)`
+    Min,
+    /// `max(a, b)`
+    Max,
+    /// `abs(a)`
+    Abs,
+    /// `len(a)`: the bytes of a text, or the entries of a list.
+    Len,
+    /// `concat(a, b)`
+    Concat,
+    /// `text(a)`: the decimal text of a number.
+    Text,
+    /// `ids()`: the empty list.
+    Ids,
+    /// `add(list, a)`: the list with one entry more.
+    Add,
+    /// `has(list, a)`
+    Has,
+}
