@@ -74,7 +74,7 @@ impl Dag {
     ///
     /// # Errors
     ///
-    /// `NoMemory` if there is no room for the node. Then the graph is as it was.
+    /// `NoMemory` if memory for the node runs out. The graph is then unchanged.
     pub fn add(&mut self, kind: NodeKind, inputs: &[Input]) -> Result<NodeId, NoMemory>
         requires earlier { All (λ x. x.node.0 < length self.old.nodes) inputs.now }
         requires room { length self.old.nodes < 18446744073709551615 }
@@ -107,7 +107,7 @@ impl Dag {
     ///
     /// # Errors
     ///
-    /// `NoMemory` if there is no room for the list.
+    /// `NoMemory` if memory for the list runs out.
     pub fn inputs(&self, b: BlockId) -> Result<Vec<BlockId>, NoMemory>
         requires { IsBlock self.now b }
         ensures { IfOk result (λ bs. bs.items ≡ block_inputs self.now b) }

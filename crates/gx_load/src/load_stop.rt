@@ -46,20 +46,20 @@ pub enum RowStop {
     Line(u32),
 }
 
-/// Why a data file was not rows_of_csv.
+/// Why a data file was not loaded.
 #[derive(Clone, Copy, Debug, PartialEq, Eq)]
 pub enum LoadStop {
     /// The first refused position.
     Data(RowStop),
     /// The file has more than 500,000 rows, and none of the first 500,000 is refused.
     TooManyRows,
-    /// There is no room for the rows.
+    /// Out of memory.
     NoMemory,
 }
 
 impl RowStop {
-    /// The name of the column of a refused position, the key columns first; `None` if the position
-    /// is no column's, or the file has no such column. It allocates nothing.
+    /// The name of the column that was refused, counted as the refusal counts them. `None` if a row
+    /// or a line was refused, or if the file has no such column. The call does not allocate.
     pub fn column_name(self, keys: u32, columns: &RowType) -> Option<&str>
         requires { (keys ≡ 1) ⊎ (keys ≡ 2) }
         ensures { option_map (λ name. name.now) result ≡ column_name_of keys columns.now self }

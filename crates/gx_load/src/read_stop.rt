@@ -16,7 +16,7 @@ pub enum ReadStop {
     /// The file has more bytes than the limit.
     #[error("the file is too long")]
     TooLong,
-    /// There is no room for the bytes.
+    /// Out of memory.
     #[error("out of memory")]
     NoMemory,
 }

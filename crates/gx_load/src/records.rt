@@ -51,7 +51,7 @@ impl<'a> Records<'a> {
     ///
     /// # Errors
     ///
-    /// `NoMemory` if there is no room for the record. No further record is returned then.
+    /// `NoMemory` if memory for the record runs out. No further record is returned then.
     pub(crate) fn take(&mut self, row: &mut ByteRecord) -> Result<bool, NoMemory>
         ensures { IfOk result (λ found. MatchBool found (self.old ≡ fields_of row.new ∷ self.new)
             ((self.old ≡ []) × (self.new ≡ []))) }

@@ -35,7 +35,7 @@ impl Mask {
     ///
     /// # Errors
     ///
-    /// `NoMemory` if there is no room for the mask.
+    /// `NoMemory` if memory for the mask runs out.
     pub fn new(alloc: Global, len: u32) -> Result<Mask, NoMemory>
         ensures { IfOk result (λ m. m ≡ replicate len false) }
     {
@@ -47,7 +47,7 @@ impl Mask {
     ///
     /// # Errors
     ///
-    /// `NoMemory` if there is no room for the mask.
+    /// `NoMemory` if memory for the mask runs out.
     pub fn full(alloc: Global, len: u32) -> Result<Mask, NoMemory>
         ensures { IfOk result (λ m. m ≡ replicate len true) }
     {
@@ -94,7 +94,7 @@ impl Mask {
     ///
     /// # Errors
     ///
-    /// `NoMemory` if there is no room for the mask.
+    /// `NoMemory` if memory for the mask runs out.
     pub fn and(&self, alloc: Global, other: &Mask) -> Result<Mask, NoMemory>
         requires { length self.now ≡ length other.now }
         ensures { IfOk result (λ m. m ≡ and self.now other.now) }
@@ -108,7 +108,7 @@ impl Mask {
     ///
     /// # Errors
     ///
-    /// `NoMemory` if there is no room for the mask.
+    /// `NoMemory` if memory for the mask runs out.
     pub fn minus(&self, alloc: Global, other: &Mask) -> Result<Mask, NoMemory>
         requires { length self.now ≡ length other.now }
         ensures { IfOk result (λ m. m ≡ and_not self.now other.now) }

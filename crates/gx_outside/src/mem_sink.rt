@@ -89,13 +89,13 @@ impl Sink for MemSink {
 
     ghost faults = { λ s. s.counts.faults };
 
-    /// Takes bytes from the start of `piece`, as many as this write may take and as there is room
-    /// for.
+    /// Takes bytes from the start of `piece`: as many as this write may take and the remaining
+    /// capacity holds.
     ///
     /// # Errors
     ///
-    /// `Failed` if this write has the number of one that fails, or if there is no room for any byte
-    /// of a piece that is not empty. Both are faults and are counted.
+    /// `Failed` if this write has the number of one that fails, or if the piece is not empty and
+    /// the capacity is used up. Both are faults and are counted.
     fn write(&mut self, piece: &[u8]) -> Result<usize, Failed>
         ensures faults_only_rise { self.old.counts.faults ≤ self.new.counts.faults }
         ensures within_piece { IfOk result (λ n. n ≤ length piece.now) }

@@ -59,7 +59,7 @@ impl<T> Parts<T> {
     ///
     /// # Errors
     ///
-    /// `NoMemory` if `f` returns it, or if there is no room for the new parts.
+    /// `NoMemory` if `f` returns it, or if memory for the new parts runs out.
     pub fn map_parts<U: Drop, F: Fn(u32, &T) -> Result<U, NoMemory>>(
         &self,
         alloc: Global,
@@ -81,7 +81,7 @@ impl<T> Parts<T> {
     ///
     /// # Errors
     ///
-    /// `NoMemory` if `f` returns it, or if there is no room for the new parts.
+    /// `NoMemory` if `f` returns it, or if memory for the new parts runs out.
     pub fn zip_parts<S, U: Drop, F: Fn(u32, &T, &S) -> Result<U, NoMemory>>(
         &self,
         alloc: Global,

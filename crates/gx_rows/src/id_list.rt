@@ -36,7 +36,7 @@ impl IdList {
     ///
     /// # Errors
     ///
-    /// `NoMemory` if there is no room for the list.
+    /// `NoMemory` if memory for the list runs out.
     pub fn of(alloc: Global, ids: &[i64]) -> Result<IdList, NoMemory>
         ensures sorted { IfOk result (λ l. IsSorted int_cmp l) }
         ensures same { IfOk result (λ l. IsPermutation ids.now l) }

@@ -8,6 +8,7 @@
 //! every other crate depends on it. It never sees files, scripts, graphs or partitions.
 #![tactic(auto)]
 
+mod bounds;
 mod cause;
 mod direction;
 mod eval_stop;
@@ -27,6 +28,7 @@ mod text;
 mod value;
 mod vid;
 
+pub use bounds::{MOST_LIST_ENTRIES, MOST_TEXT_BYTES};
 pub use cause::Cause;
 pub use direction::Direction;
 pub use eval_stop::EvalStop;

@@ -126,7 +126,7 @@ impl Row {
     ///
     /// # Errors
     ///
-    /// `NoMemory` if there is no room for the values, or if no further copy of one can be counted.
+    /// `NoMemory` if memory for the values runs out, or if no further copy of one can be counted.
     pub fn copy(&self) -> Result<Row, NoMemory>
         ensures { IfOk result (λ row. row ≡ self.now) }
     {

@@ -39,7 +39,7 @@ impl Text {
     ///
     /// # Errors
     ///
-    /// `NoMemory` if there is no room for the bytes.
+    /// `NoMemory` if memory for the bytes runs out.
     pub fn of(alloc: Global, s: &str) -> Result<Text, NoMemory>
         ensures { IfOk result (λ t. t ≡ s.now) }
     {
@@ -50,7 +50,7 @@ impl Text {
     ///
     /// # Errors
     ///
-    /// `NoMemory` if there is no room for the count of copies.
+    /// `NoMemory` if memory for the count of copies runs out.
     pub fn from_string(alloc: Global, chars: String) -> Result<Text, NoMemory>
         ensures { IfOk result (λ t. t ≡ string_bytes chars) }
     {

@@ -10,7 +10,7 @@ use gx_syntax_tokens::Writer;
 ///
 /// # Errors
 ///
-/// `NoMemory` if there is no room for it.
+/// `NoMemory` if memory runs out.
 pub(crate) fn put_action(
     out: &mut Writer,
     word: &str,

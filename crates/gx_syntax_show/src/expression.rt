@@ -72,7 +72,7 @@ fn put_infix(out: &mut Writer, operator: BinaryOp) -> Result<(), NoMemory>
 ///
 /// # Errors
 ///
-/// `NoMemory` if there is no room for it.
+/// `NoMemory` if memory runs out.
 #[cycle(expression)]
 #[tactic(auto, using(crate::proofs::ExprWriting::with_call, crate::proofs::ExprWriting::with_prefix, crate::proofs::ExprWriting::with_infix))]
 pub(crate) fn put_expression(

@@ -22,7 +22,7 @@ pub(crate) trait ListItem {
     ///
     /// # Errors
     ///
-    /// `NoMemory` if there is no room for it.
+    /// `NoMemory` if memory runs out.
     fn put(&self, out: &mut Writer) -> Result<(), NoMemory>
         ensures { Writes result out.old out.new (pieces self.now) };
 }
@@ -107,7 +107,7 @@ fn put_int(out: &mut Writer, number: i64) -> Result<(), NoMemory>
 ///
 /// # Errors
 ///
-/// `NoMemory` if there is no room for them.
+/// `NoMemory` if memory runs out.
 // The list is taken as a tree holds it: `put_expression` calls this for the arguments of a call, and
 // a slice would hide from the check that they are parts of the call.
 pub(crate) fn put_list<E: ListItem>(out: &mut Writer, list: &Items<E>) -> Result<(), NoMemory>

@@ -15,7 +15,7 @@ use sqlite_items::Items;
 ///
 /// # Errors
 ///
-/// `NoMemory` if there is no room for it.
+/// `NoMemory` if memory runs out.
 #[tactic(auto, using(crate::proofs::PiecesLemmas::pieces_append))]
 pub(crate) fn put_map(
     out: &mut Writer,

@@ -24,7 +24,7 @@ fn put_line(out: &mut Writer, statement: &Stmt) -> Result<(), NoMemory>
 ///
 /// # Errors
 ///
-/// `NoMemory` if there is no room for the text.
+/// `NoMemory` if memory for the text runs out.
 pub fn show(alloc: Global, script: &Script) -> Result<Text, NoMemory>
     ensures text { IfOk result (λ text. text ≡ text_of_script script.now.statements) }
 {

@@ -21,7 +21,7 @@ use gx_syntax_tree::Stmt;
 ///
 /// # Errors
 ///
-/// `NoMemory` if there is no room for it.
+/// `NoMemory` if memory runs out.
 pub(crate) fn put_statement(out: &mut Writer, statement: &Stmt) -> Result<(), NoMemory>
     ensures { Writes result out.old out.new (stmt_pieces statement.now) }
 {

@@ -13,7 +13,7 @@ use gx_syntax_tree::Expr;
 ///
 /// # Errors
 ///
-/// `NoMemory` if there is no room for it.
+/// `NoMemory` if memory runs out.
 #[tactic(auto, using(crate::proofs::PiecesLemmas::pieces_append))]
 pub(crate) fn put_filter(
     out: &mut Writer,

@@ -9,7 +9,7 @@ use gx_rows::NoMemory;
 ///
 /// # Errors
 ///
-/// `NoMemory` if there is no room for it.
+/// `NoMemory` if memory runs out.
 #[tactic(auto, using(crate::specs::Writing::begins_equal, crate::specs::Writing::begins_append))]
 pub(crate) fn append(out: &mut String, slice: &str) -> Result<(), NoMemory>
     ensures written { OnOk result (string_bytes out.new ≡ string_bytes out.old ++ slice.now) }

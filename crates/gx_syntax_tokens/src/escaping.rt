@@ -16,7 +16,7 @@ use gx_rows::NoMemory;
 ///
 /// # Errors
 ///
-/// `NoMemory` if there is no room for it.
+/// `NoMemory` if memory runs out.
 pub(crate) fn put_quoted(out: &mut String, value: &str) -> Result<(), NoMemory>
     ensures written { OnOk result
         (string_bytes out.new ≡ string_bytes out.old ++ 34 ∷ escaped_text value.now ++ 34 ∷ []) }

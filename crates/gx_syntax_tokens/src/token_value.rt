@@ -76,7 +76,7 @@ pub enum LexEnd {
 ///
 /// # Errors
 ///
-/// `NoMemory` if there is no room for the list.
+/// `NoMemory` if memory for the list runs out.
 pub fn lex<'a>(alloc: Global, text: &'a str) -> Result<(Vec<PlacedToken<'a>>, LexEnd), NoMemory>
     requires { length text.now < 2 ^ 32 }
     ensures tokens { IfOk result (λ r. token_stream_of r.0.items r.1 ≡ tokens_of text.now) }
@@ -100,7 +100,7 @@ pub fn lex<'a>(alloc: Global, text: &'a str) -> Result<(Vec<PlacedToken<'a>>, Le
 ///
 /// # Errors
 ///
-/// `NoMemory` if there is no room for the value.
+/// `NoMemory` if memory for the value runs out.
 #[tactic(auto, unfolding(crate::specs::Quotes::unescaped_text))]
 pub fn unescape(alloc: Global, raw: &str) -> Result<Text, NoMemory>
     ensures { IfOk result (λ value. value ≡ unescaped_text raw.now) }

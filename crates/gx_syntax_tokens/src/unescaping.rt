@@ -71,7 +71,7 @@ fn split_escape(text: &str) -> (&'static str, &str)
 ///
 /// # Errors
 ///
-/// `NoMemory` if there is no room for the value.
+/// `NoMemory` if memory for the value runs out.
 pub(crate) fn value_of(alloc: Global, raw: &str) -> Result<String, NoMemory>
     ensures { IfOk result (λ value. string_bytes value ≡ unescaped_from false raw.now) }
 {

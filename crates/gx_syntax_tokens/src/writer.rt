@@ -91,8 +91,8 @@ impl Writer {
     ///
     /// # Errors
     ///
-    /// `NoMemory` if there is no room for it. A part of it may be written then; so it is with each
-    /// call below.
+    /// `NoMemory` if memory runs out. The word may then be partly written. The calls below do the
+    /// same.
     pub fn word(&mut self, word: &str) -> Result<(), NoMemory>
         ensures written { OnOk result
             (self.new ≡ with_piece self.old (pieces.token (terminals.word word.now))) }
@@ -205,7 +205,7 @@ impl Writer {
     ///
     /// # Errors
     ///
-    /// `NoMemory` if there is no room for it.
+    /// `NoMemory` if memory runs out.
     pub fn into_text(self) -> Result<Text, NoMemory>
         ensures { IfOk result (λ text. text ≡ self.text) }
     {
