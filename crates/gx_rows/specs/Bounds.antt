@@ -1,7 +1,12 @@
--- How long a text and a list in a value may be.
-use Rattle.std.specs.Prelude.{ℕ, ◌≤◌, List, All, length, ⊤}
+-- How large a number, a text and a list in a value may be.
+use Rattle.std.specs.Prelude.{ℕ, ◌≤◌, ◌^◌, nat_lt, ℤ, pos, negsuc, Bool, List, All, length, ⊤}
 use Rattle.gx_rows.specs.declared.value.Value.{Value}
 use Rattle.gx_rows.specs.declared.value.Value.TheVariants as value
+
+-- the number is one of 64 bits with a sign
+abbrev pub fits_64_bits : ℤ → Bool
+fits_64_bits (pos n) = nat_lt n (2 ^ 63)
+fits_64_bits (negsuc n) = nat_lt n (2 ^ 63)
 
 -- the most bytes of a text
 abbrev pub MOST_TEXT_BYTES : ℕ

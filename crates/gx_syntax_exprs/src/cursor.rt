@@ -7,7 +7,7 @@
 //! that remain is the refused one, and if none remains, the end is refused. The cursor never sees
 //! the text of the script.
 
-ghost use Rattle.std.specs.Prelude.{◌≡◌, ◌<◌, ◌^◌, ℕ, List, Option, true, drop, length};
+ghost use Rattle.std.specs.Prelude.{◌≡◌, ◌<◌, ◌^◌, true, drop, length};
 ghost use Rattle.gx_syntax_tokens.specs.Terminals.{is_symbol};
 ghost use Rattle.gx_syntax_tokens.specs.TokenTexts.{terminal_of};
 ghost use Rattle.gx_syntax_exprs.specs.Combinators.{satisfy};
@@ -19,15 +19,6 @@ use gx_rows::Text;
 use gx_syntax_tokens::{PlacedToken, Symbol, TokenValue, unescape};
 use std::alloc::Global;
 use std::marker::Model;
-
-/// A value that a single word names, as each variant of an enum of keywords.
-pub trait Keyword: Copy {
-    ghost meaning: { List ℕ → Option Self };
-
-    /// The value that a word names; `None` if it names none.
-    fn of_word(word: &str) -> Option<Self>
-        ensures { result ≡ meaning word.now };
-}
 
 /// The tokens of a script that remain to be parsed.
 #[derive(Drop)]
@@ -151,25 +142,6 @@ impl<'a> Cursor<'a> {
         {
             self.rest = others;
             Ok(())
-        } else {
-            Err(ParseStop::Refused)
-        }
-    }
-
-    /// Parses a word that names a value of the type.
-    ///
-    /// # Errors
-    ///
-    /// `Refused`.
-    pub fn keyword_value<K: Keyword>(&mut self) -> Result<K, ParseStop>
-        ensures { Parses result self.new (satisfy (token.keyword_value K.meaning) self.old) }
-    {
-        if let [placed, others @ ..] = self.rest
-            && let TokenValue::Word(word) = placed.value
-            && let Some(value) = K::of_word(word)
-        {
-            self.rest = others;
-            Ok(value)
         } else {
             Err(ParseStop::Refused)
         }

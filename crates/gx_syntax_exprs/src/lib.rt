@@ -16,6 +16,6 @@ mod parse_stop;
 mod stack;
 mod steps;
 
-pub use cursor::{Cursor, Keyword};
+pub use cursor::Cursor;
 pub use laws::expressions_are_parsed_exactly;
 pub use parse_stop::ParseStop;

@@ -4,7 +4,6 @@ ghost use Rattle.std.specs.Prelude.{◌≡◌};
 ghost use Rattle.gx_syntax_exprs.specs.declared.parse_stop.ParseStop.TheVariants as stops;
 
 use gx_rows::NoMemory;
-use std::alloc::{AllocError, AllocFailed};
 
 /// Why a parser stopped.
 #[derive(Clone, Copy, Debug, PartialEq, Eq)]
@@ -19,22 +18,6 @@ impl From<NoMemory> for ParseStop {
     ghost from_gives = { λ _ stop. stop ≡ stops.NoMemory };
 
     fn from(_error: NoMemory) -> ParseStop {
-        ParseStop::NoMemory
-    }
-}
-
-impl From<AllocError> for ParseStop {
-    ghost from_gives = { λ _ stop. stop ≡ stops.NoMemory };
-
-    fn from(_error: AllocError) -> ParseStop {
-        ParseStop::NoMemory
-    }
-}
-
-impl<T: Drop> From<AllocFailed<T>> for ParseStop {
-    ghost from_gives = { λ _ stop. stop ≡ stops.NoMemory };
-
-    fn from(_error: AllocFailed<T>) -> ParseStop {
         ParseStop::NoMemory
     }
 }

@@ -1,6 +1,7 @@
 -- The words of the language, by what they stand for.
 --
 -- To add a word, give it its line here and in src/words.rt; the parser has the other direction.
+-- HACKING.md lists the files of all crates.
 use Rattle.std.specs.Prelude.{ℕ, Bool, if◌then◌else◌, List, codes}
 use Rattle.gx_rows.specs.declared.value.ValueKind.{ValueKind}
 use Rattle.gx_rows.specs.declared.value.ValueKind.TheVariants as kinds

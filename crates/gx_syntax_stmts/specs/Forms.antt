@@ -5,7 +5,8 @@
 -- its family, and its arm to `rest` of src/script.rt. If its form does not begin with `NAME = SOURCE`,
 -- add its case to `has_target` and `rest` here, and its arm to `body` of src/script.rt. If it has a
 -- part of a new kind, see specs/Parts.antt, and give the part a case in `SpellsPart` and `parse_part`
--- here, and in `goes` and `part_exact` of proofs/ExactForms.antt.
+-- here, and in `goes` and `part_exact` of proofs/ExactForms.antt. HACKING.md has the whole list of
+-- files for a new statement.
 use Rattle.std.specs.Prelude.{ℕ, Bool, true, false, if◌then◌else◌, Err, List}
 use Rattle.gx_syntax_tokens.specs.Terminals.{Terminal}
 use Rattle.gx_syntax_tokens.specs.declared.symbol.Symbol.{Symbol}

@@ -9,7 +9,7 @@ ghost use Rattle.gx_syntax_exprs.specs.Parses.{Parses};
 ghost use Rattle.gx_syntax_stmts.specs.Parts as parts;
 
 use crate::keywords::keyword_value;
-use crate::repetition::{Repeated, many};
+use crate::repetition::{Repeated, append, many};
 use gx_syntax_exprs::{Cursor, ParseStop};
 use gx_syntax_tokens::{Symbol, TokenValue};
 use gx_syntax_tree::{ColumnConst, ColumnDecl, ColumnExpr, ColumnMerge, Const, Expr};
@@ -140,7 +140,7 @@ fn comma_list<E: ListItem>(cursor: &mut Cursor<'_>, alloc: Global) -> Result<Ite
 {
     let first = E::parse(cursor, alloc)?;
     let mut items = Items::new(alloc);
-    items.push(first)?;
+    append(&mut items, first)?;
     many::<CommaItem<E>>(cursor, alloc, items)
 }
 

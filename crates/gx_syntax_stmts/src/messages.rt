@@ -11,7 +11,7 @@ ghost use Rattle.gx_syntax_stmts.specs.Parts as parts;
 use crate::keywords::keyword_value;
 use crate::lists::paren_list;
 use crate::parts::optional_expr;
-use crate::repetition::{Repeated, many};
+use crate::repetition::{Repeated, append, many};
 use gx_rows::Text;
 use gx_syntax_exprs::{Cursor, ParseStop};
 use gx_syntax_tree::{ActiveWord, SendClause, Stmt};
@@ -56,7 +56,7 @@ fn send_clauses(cursor: &mut Cursor<'_>, alloc: Global) -> Result<Items<SendClau
 {
     let first = send_clause(cursor, alloc)?;
     let mut clauses = Items::new(alloc);
-    clauses.push(first)?;
+    append(&mut clauses, first)?;
     many::<NextSend>(cursor, alloc, clauses)
 }
 

@@ -1,11 +1,12 @@
 //! Repetition: values that are parsed one after another while the next token begins one more.
 
-ghost use Rattle.std.specs.Prelude.{◌≡◌, Bool, List, Result};
+ghost use Rattle.std.specs.Prelude.{◌≡◌, ◌++◌, ◌∷◌, [], Bool, List, OnOk, Result};
 ghost use Rattle.gx_syntax_tokens.specs.Terminals.{Terminal};
 ghost use Rattle.gx_syntax_exprs.specs.Parses.{Parses};
 ghost use Rattle.gx_syntax_exprs.specs.TokenParsers.{is_next};
 ghost use Rattle.gx_syntax_stmts.specs.Parts.{appended};
 
+use gx_rows::NoMemory;
 use gx_syntax_exprs::{Cursor, ParseStop};
 use sqlite_items::Items;
 use std::alloc::Global;
@@ -27,6 +28,14 @@ pub(crate) trait Repeated {
         ensures { Parses result cursor.new (parsed cursor.old) };
 }
 
+/// Appends an item.
+pub(crate) fn append<T: Drop>(items: &mut Items<T>, item: T) -> Result<(), NoMemory>
+    ensures { OnOk result (items.new ≡ items.old ++ item ∷ []) }
+{
+    items.push(item)?;
+    Ok(())
+}
+
 /// Parses values while the next token begins one more, and appends them to `items`.
 pub(crate) fn many<R: Repeated>(
     cursor: &mut Cursor<'_>,
@@ -43,7 +52,7 @@ pub(crate) fn many<R: Repeated>(
             return Ok(items);
         }
         match R::parse(cursor, alloc) {
-            Ok(item) => items.push(item)?,
+            Ok(item) => append(&mut items, item)?,
             Err(stop) => return Err(stop),
         }
     }

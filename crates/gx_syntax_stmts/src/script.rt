@@ -13,7 +13,7 @@ use crate::grammar_stop::GrammarStop;
 use crate::keywords::keyword_value;
 use crate::repetition::{Repeated, many};
 use crate::{actions, graphs, joins, loads, maps, messages, tables};
-use gx_rows::Text;
+use gx_rows::{NoMemory, Text};
 use gx_syntax_exprs::{Cursor, ParseStop, expressions_are_parsed_exactly};
 use gx_syntax_tokens::{PlacedToken, Symbol};
 use gx_syntax_tree::{Script, Stmt, StmtKeyword};
@@ -98,7 +98,7 @@ fn statement(cursor: &mut Cursor<'_>, alloc: Global) -> Result<Stmt, ParseStop>
 {
     let keyword = keyword_value(cursor)?;
     // A large value that is dropped on the way of a `?` is dear to check; a box is not.
-    let statement = Boxed::new(alloc, body(cursor, alloc, keyword)?)?;
+    let statement = Boxed::new(alloc, body(cursor, alloc, keyword)?).map_err(|_| NoMemory)?;
     cursor.symbol(Symbol::Semicolon)?;
     Ok(statement.into_inner())
 }

@@ -108,8 +108,7 @@ pub fn unescape(alloc: Global, raw: &str) -> Result<Text, NoMemory>
     if plain_len(raw.as_bytes()) == raw.len() {
         return Text::of(alloc, raw);
     }
-    let value = value_of(alloc, raw)?;
-    Text::of(alloc, value.as_str())
+    Text::from_string(alloc, value_of(alloc, raw)?)
 }
 
 #[cfg(test)]

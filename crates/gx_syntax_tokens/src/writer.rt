@@ -209,7 +209,7 @@ impl Writer {
     pub fn into_text(self) -> Result<Text, NoMemory>
         ensures { IfOk result (λ text. text ≡ self.text) }
     {
-        Text::of(self.alloc, self.out.as_str())
+        Text::from_string(self.alloc, self.out)
     }
 }
 

@@ -1,7 +1,7 @@
 -- The abstract syntax of statements: each is a keyword with the values of its parts, in text order.
 --
 -- To add a statement, add its variant of `Stmt`, its keyword, and its lines in `form_of`, `stmt_of`
--- and `view_of`.
+-- and `view_of`, and then follow HACKING.md, which lists the files of all crates.
 use Rattle.std.specs.Prelude.{◌≡◌, ℕ, ℤ, Bool, List, codes}
 use Rattle.gx_syntax_tree.specs.declared.constant.ColumnConst.{ColumnConst}
 use Rattle.gx_syntax_tree.specs.declared.constant.Const.{Const}

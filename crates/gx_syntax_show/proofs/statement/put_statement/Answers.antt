@@ -18,6 +18,21 @@ returns-in-Graph c = rw c.in-Graph.is c.put_default.ensures
 pub returns-in-FromEdges : goal.returns-in-FromEdges
 returns-in-FromEdges c = rw c.in-FromEdges.is c.put_from_edges.ensures
 
+pub returns-in-Reverse : goal.returns-in-Reverse
+returns-in-Reverse c = rw c.in-Reverse.is c.put_derived.ensures
+
+pub returns-in-Mask : goal.returns-in-Mask
+returns-in-Mask c = rw c.in-Mask.is (grind (arith))
+
+pub returns-in-Subgraph : goal.returns-in-Subgraph
+returns-in-Subgraph c = rw c.in-Subgraph.is c.put_subgraph.ensures
+
+pub returns-in-GroupEdges : goal.returns-in-GroupEdges
+returns-in-GroupEdges c = rw c.in-GroupEdges.is c.put_group_edges.ensures
+
+pub returns-in-Partition : goal.returns-in-Partition
+returns-in-Partition c = rw (c.in-Partition.is, ← c.cut_word.ensures) c.put_by-in-Partition.ensures
+
 pub returns-in-MapVertices : goal.returns-in-MapVertices
 returns-in-MapVertices c = rw c.in-MapVertices.is c.put_map.ensures
 
@@ -26,21 +41,6 @@ returns-in-MapEdges c = rw c.in-MapEdges.is c.put_map-in-MapEdges.ensures
 
 pub returns-in-MapTriplets : goal.returns-in-MapTriplets
 returns-in-MapTriplets c = rw c.in-MapTriplets.is c.put_map-in-MapTriplets.ensures
-
-pub returns-in-Subgraph : goal.returns-in-Subgraph
-returns-in-Subgraph c = rw c.in-Subgraph.is c.put_subgraph.ensures
-
-pub returns-in-Mask : goal.returns-in-Mask
-returns-in-Mask c = rw c.in-Mask.is (grind (arith))
-
-pub returns-in-Reverse : goal.returns-in-Reverse
-returns-in-Reverse c = rw c.in-Reverse.is c.put_derived.ensures
-
-pub returns-in-GroupEdges : goal.returns-in-GroupEdges
-returns-in-GroupEdges c = rw c.in-GroupEdges.is c.put_group_edges.ensures
-
-pub returns-in-Partition : goal.returns-in-Partition
-returns-in-Partition c = rw (c.in-Partition.is, ← c.cut_word.ensures) c.put_by-in-Partition.ensures
 
 pub returns-in-JoinVertices : goal.returns-in-JoinVertices
 returns-in-JoinVertices c = rw c.in-JoinVertices.is c.put_join.ensures

@@ -16,7 +16,7 @@ returns-in-Err g c =
 
 pub items-preserved : goal.items-preserved
 items-preserved g c =
-    ap (λ v. appended_within g.R.Repeated.starts g.R.Repeated.parsed v (c.len-most.result + 1 - (c.items.counter + 1)) c.parse.new.cursor) c.in_ok-push-in-Ok.ensures.ok
+    ap (λ v. appended_within g.R.Repeated.starts g.R.Repeated.parsed v (c.len-most.result + 1 - (c.items.counter + 1)) c.parse.new.cursor) c.in_ok-append-in-Ok.ensures
     ∙ appended-some g.R.Repeated.starts g.R.Repeated.parsed c.items.items (c.len-most.result + 1 - c.items.counter) (c.len-most.result + 1 - (c.items.counter + 1)) c.items.cursor c.parse.new.cursor c.in-Ok.item (let below : c.items.counter < c.len-most.result + 1 = c.items-test.true in omega arith) (sym c.is_next.ensures ∙ c.if-not-is_next.false) c.in-Ok.ensures
     ∙ c.items.invariant
 
