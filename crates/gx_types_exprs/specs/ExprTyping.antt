@@ -1,0 +1,135 @@
+-- Whether an expression is well typed, by rules, and the numbered tree that it then stands for.
+--
+-- A tree is checked node by node. Its root has the first number, and each operand is numbered after
+-- the nodes of those before it. The operands are checked from left to right, and then the operation;
+-- the first check that fails is the result, with the number of its node.
+use Rattle.std.specs.Prelude.{◌≡◌, ℕ, ◌+◌, nat_eq, nat_le, Bool, true, false, ◌&&◌, if◌then◌else◌, Option, None, Some, Result, Ok, Err, List, [], ◌∷◌, length, slice_get, codes, bytes_eq, refl}
+use Rattle.std.specs.Option.{option_and_then, option_map, unwrap_or}
+use Rattle.gx_rows.specs.Columns.{Column, names_of, position_of}
+use Rattle.gx_rows.specs.Limits.{most_of}
+use Rattle.gx_rows.specs.Results.{◌>>=◌}
+use Rattle.gx_rows.specs.declared.limit_kind.LimitKind.TheVariants as limit
+use Rattle.gx_rows.specs.declared.value.Value.TheVariants as value
+use Rattle.gx_rows.specs.declared.value.ValueKind.{ValueKind}
+use Rattle.gx_rows.specs.declared.value.ValueKind.TheVariants as kind
+use Rattle.gx_expr.specs.Typing.{kind_of_unary, kind_of_binary, kind_of_call}
+use Rattle.gx_expr.specs.declared.expr.Expr.{Expr}
+use Rattle.gx_expr.specs.declared.expr.Expr.TheVariants as expr
+use Rattle.gx_expr.specs.declared.operators.BinaryOp.{BinaryOp}
+use Rattle.gx_expr.specs.declared.operators.Function.{Function}
+use Rattle.gx_expr.specs.declared.operators.UnaryOp.{UnaryOp}
+use Rattle.gx_expr.specs.declared.side.Side.{Side}
+use Rattle.gx_syntax_tree.specs.Bounds.{depth}
+use Rattle.gx_syntax_tree.specs.declared.expr.Expr.{Expr as Written}
+use Rattle.gx_syntax_tree.specs.declared.expr.Expr.TheFolds.{fold-Expr}
+use Rattle.gx_syntax_tree.specs.declared.expr.Expr.TheOpen.{Expr-F as Written-F}
+use Rattle.gx_syntax_tree.specs.declared.expr.Expr.TheOpen as written
+use Rattle.gx_types_exprs.specs.ExprScopes.{ScopeNames, side_columns, side_has_id}
+use Rattle.gx_types_exprs.specs.ExprWords.{side_of_word, function_of_word, arity_of, binary_of_written, unary_of_written}
+use Rattle.gx_types_exprs.specs.declared.expr_stop.ExprStop.{ExprStop}
+use Rattle.gx_types_exprs.specs.declared.expr_stop.ExprStop.TheVariants as stop
+use Rattle.gx_types_exprs.specs.declared.type_kind.TypeKind.{TypeKind}
+use Rattle.gx_types_exprs.specs.declared.type_kind.TypeKind.TheVariants as type_kind
+use Rattle.gx_types_exprs.specs.declared.typed_expr.TypedExpr.{TypedExpr}
+
+-- a tree, checked and numbered from a given number on
+abbrev pub Typing : Type 0
+Typing = ℕ → Result TypedExpr ExprStop
+
+-- the check of the node of this number fails
+abbrev pub refusal : {A : Type 0} → ℕ → TypeKind → Result A ExprStop
+refusal n kind = Err (stop.At n kind)
+
+-- a node without operands
+abbrev pub leaf : ℕ → Expr → ValueKind → Result TypedExpr ExprStop
+leaf n e kind = Ok (record { expr = e; kind = kind; next = n + 1 })
+
+-- an operation, if it takes the kinds of its operands
+abbrev pub operation : ℕ → Expr → ℕ → Option ValueKind → Result TypedExpr ExprStop
+operation n e next (Some kind) = Ok (record { expr = e; kind = kind; next = next })
+operation n e next None = refusal n type_kind.KindWrong
+
+-- ---- columns
+
+-- the position and the kind of the column of a name
+abbrev pub column_of : List ℕ → List Column → Option (ℕ × ValueKind)
+column_of name columns =
+    option_and_then (λ i. option_map (λ c. (i, c.1)) (slice_get columns i)) (position_of name (names_of columns))
+
+abbrev pub typed_column : ℕ → Side → Option (ℕ × ValueKind) → Result TypedExpr ExprStop
+typed_column n d (Some c) = leaf n (expr.Column n d c.0) c.1
+typed_column n d None = refusal n type_kind.ColumnUnknown
+
+-- a name after a side and a dot, by the columns of the side if it is in scope
+abbrev pub typed_field : ℕ → Side → List ℕ → Option (List Column) → Result TypedExpr ExprStop
+typed_field n d name (Some columns) =
+    if side_has_id d && bytes_eq name (codes "id") then leaf n (expr.Id n d) kind.Int
+    else typed_column n d (column_of name columns)
+typed_field n d name None = refusal n type_kind.SideUnknown
+
+abbrev pub typed_name : ScopeNames → ℕ → List ℕ → Option Side → Result TypedExpr ExprStop
+typed_name s n name (Some d) = typed_field n d name (side_columns s d)
+typed_name s n name None = refusal n type_kind.SideUnknown
+
+-- ---- operations
+
+abbrev pub typed_unary : ℕ → UnaryOp → TypedExpr → Result TypedExpr ExprStop
+typed_unary n o a = operation n (expr.Unary n o a.expr) a.next (kind_of_unary o a.kind)
+
+abbrev pub typed_binary : ℕ → BinaryOp → TypedExpr → TypedExpr → Result TypedExpr ExprStop
+typed_binary n o a b = operation n (expr.Binary n o a.expr b.expr) b.next (kind_of_binary o a.kind b.kind)
+
+-- the arguments of a call: their trees, their kinds, and the number after those of their nodes
+pub record TypedArgs : Type 0 where
+  pub exprs : List Expr
+  pub kinds : List ValueKind
+  pub next : ℕ
+
+abbrev pub typed_args : List Typing → ℕ → Result TypedArgs ExprStop
+typed_args [] n = Ok (record { exprs = []; kinds = []; next = n })
+typed_args (a ∷ rest) n =
+    a n >>= λ x. typed_args rest x.next >>= λ xs.
+    Ok (record { exprs = x.expr ∷ xs.exprs; kinds = x.kind ∷ xs.kinds; next = xs.next })
+
+-- the function of this name and of this number of arguments
+abbrev pub function_of : List ℕ → ℕ → Option Function
+function_of name count =
+    option_and_then (λ f. if nat_eq count (arity_of f) then Some f else None) (function_of_word name)
+
+abbrev pub typed_function : ℕ → TypedArgs → Option Function → Result TypedExpr ExprStop
+typed_function n xs (Some f) = operation n (expr.Call n f xs.exprs) xs.next (kind_of_call f xs.kinds)
+typed_function n xs None = refusal n type_kind.FunctionUnknown
+
+abbrev pub typed_call : ℕ → List ℕ → TypedArgs → Result TypedExpr ExprStop
+typed_call n name xs = typed_function n xs (function_of name (length xs.kinds))
+
+-- ---- trees
+
+-- a tree, from its operands
+abbrev pub typing_of_layer : ScopeNames → Written-F Typing → Typing
+typing_of_layer s (written.Number z) n = leaf n (expr.Const n (value.Int z)) kind.Int
+typing_of_layer s (written.Quoted t) n = leaf n (expr.Const n (value.Text t)) kind.Text
+typing_of_layer s (written.Truth b) n = leaf n (expr.Const n (value.Bool b)) kind.Bool
+typing_of_layer s written.Matched n =
+    if s.has_matched then leaf n (expr.Matched n) kind.Bool else refusal n type_kind.SideUnknown
+typing_of_layer s (written.Column word name) n = typed_name s n name (side_of_word word)
+typing_of_layer s (written.Call name xs) n = typed_args xs (n + 1) >>= typed_call n name
+typing_of_layer s (written.Unary o a) n = a (n + 1) >>= typed_unary n (unary_of_written o)
+typing_of_layer s (written.Binary o a b) n =
+    a (n + 1) >>= λ x. b x.next >>= typed_binary n (binary_of_written o) x
+
+-- a tree of any depth
+abbrev pub typed_tree : ScopeNames → ℕ → Written → Result TypedExpr ExprStop
+typed_tree s n e = fold-Expr Typing (typing_of_layer s) e n
+
+-- an expression: its depth is tested before all else
+abbrev pub typed_expr : ScopeNames → ℕ → Written → Result TypedExpr ExprStop
+typed_expr s n e = if nat_le (depth e) (most_of limit.Depth) then typed_tree s n e else Err stop.Depth
+
+-- a condition has to be a truth value
+abbrev pub truth_typed : ℕ → TypedExpr → ValueKind → Result TypedExpr ExprStop
+truth_typed n t kind.Bool = Ok t
+truth_typed n t _ = refusal n type_kind.KindWrong
+
+abbrev pub typed_predicate : ScopeNames → ℕ → Written → Result TypedExpr ExprStop
+typed_predicate s n e = typed_expr s n e >>= λ t. truth_typed n t t.kind

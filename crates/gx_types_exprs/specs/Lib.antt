@@ -1,0 +1,4 @@
+pub mod ExprScopes
+pub mod ExprTyping
+pub mod ExprWords
+pub mod Returns
