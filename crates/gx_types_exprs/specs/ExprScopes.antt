@@ -66,6 +66,12 @@ side_columns s side.Edge = s.edge
 side_columns s side.Other = s.other
 side_columns s side.Message = s.message
 
+abbrev pub has_side : ScopeNames → Side → Bool
+has_side s d = is_some (side_columns s d)
+
+abbrev pub readable_columns : ScopeNames → Side → List Column
+readable_columns s d = unwrap_or (side_columns s d) []
+
 -- the sides whose row has an identifier
 abbrev pub side_has_id : Side → Bool
 side_has_id side.Vertex = true
@@ -78,7 +84,7 @@ side_has_id side.Message = false
 -- the scope without names, as the evaluation sees it
 abbrev pub scope_type : ScopeNames → ScopeType
 scope_type s = record {
-  columns = λ d. map (λ c. c.1) (unwrap_or (side_columns s d) []);
-  has_id = λ d. side_has_id d && is_some (side_columns s d);
+  columns = λ d. map (λ c. c.1) (readable_columns s d);
+  has_id = λ d. side_has_id d && has_side s d;
   has_matched = s.has_matched;
 }

@@ -4,7 +4,7 @@
 -- the nodes of those before it. The operands are checked from left to right, and then the operation;
 -- the first check that fails is the result, with the number of its node.
 use Rattle.std.specs.Prelude.{◌≡◌, ℕ, ◌+◌, nat_eq, nat_le, Bool, true, false, ◌&&◌, if◌then◌else◌, Option, None, Some, Result, Ok, Err, List, [], ◌∷◌, length, slice_get, codes, bytes_eq, refl}
-use Rattle.std.specs.Option.{option_and_then, option_map, unwrap_or}
+use Rattle.std.specs.Option.{option_and_then, option_map}
 use Rattle.gx_rows.specs.Columns.{Column, names_of, position_of}
 use Rattle.gx_rows.specs.Limits.{most_of}
 use Rattle.gx_rows.specs.Results.{◌>>=◌}
@@ -24,7 +24,7 @@ use Rattle.gx_syntax_tree.specs.declared.expr.Expr.{Expr as Written}
 use Rattle.gx_syntax_tree.specs.declared.expr.Expr.TheFolds.{fold-Expr}
 use Rattle.gx_syntax_tree.specs.declared.expr.Expr.TheOpen.{Expr-F as Written-F}
 use Rattle.gx_syntax_tree.specs.declared.expr.Expr.TheOpen as written
-use Rattle.gx_types_exprs.specs.ExprScopes.{ScopeNames, side_columns, side_has_id}
+use Rattle.gx_types_exprs.specs.ExprScopes.{ScopeNames, has_side, readable_columns, side_has_id}
 use Rattle.gx_types_exprs.specs.ExprWords.{side_of_word, function_of_word, arity_of, binary_of_written, unary_of_written}
 use Rattle.gx_types_exprs.specs.declared.expr_stop.ExprStop.{ExprStop}
 use Rattle.gx_types_exprs.specs.declared.expr_stop.ExprStop.TheVariants as stop
@@ -60,16 +60,22 @@ abbrev pub typed_column : ℕ → Side → Option (ℕ × ValueKind) → Result 
 typed_column n d (Some c) = leaf n (expr.Column n d c.0) c.1
 typed_column n d None = refusal n type_kind.ColumnUnknown
 
--- a name after a side and a dot, by the columns of the side if it is in scope
-abbrev pub typed_field : ℕ → Side → List ℕ → Option (List Column) → Result TypedExpr ExprStop
-typed_field n d name (Some columns) =
-    if side_has_id d && bytes_eq name (codes "id") then leaf n (expr.Id n d) kind.Int
-    else typed_column n d (column_of name columns)
-typed_field n d name None = refusal n type_kind.SideUnknown
+-- a name after a side and a dot
+abbrev pub typed_field : ScopeNames → ℕ → List ℕ → Side → Result TypedExpr ExprStop
+typed_field s n name d =
+    if has_side s d then
+      (if side_has_id d && bytes_eq name (codes "id") then leaf n (expr.Id n d) kind.Int
+      else typed_column n d (column_of name (readable_columns s d)))
+    else refusal n type_kind.SideUnknown
 
+-- a name after a word and a dot, by the side that the word names
 abbrev pub typed_name : ScopeNames → ℕ → List ℕ → Option Side → Result TypedExpr ExprStop
-typed_name s n name (Some d) = typed_field n d name (side_columns s d)
+typed_name s n name (Some d) = typed_field s n name d
 typed_name s n name None = refusal n type_kind.SideUnknown
+
+abbrev pub typed_matched : ScopeNames → ℕ → Result TypedExpr ExprStop
+typed_matched s n =
+    if s.has_matched then leaf n (expr.Matched n) kind.Bool else refusal n type_kind.SideUnknown
 
 -- ---- operations
 
@@ -110,8 +116,7 @@ abbrev pub typing_of_layer : ScopeNames → Written-F Typing → Typing
 typing_of_layer s (written.Number z) n = leaf n (expr.Const n (value.Int z)) kind.Int
 typing_of_layer s (written.Quoted t) n = leaf n (expr.Const n (value.Text t)) kind.Text
 typing_of_layer s (written.Truth b) n = leaf n (expr.Const n (value.Bool b)) kind.Bool
-typing_of_layer s written.Matched n =
-    if s.has_matched then leaf n (expr.Matched n) kind.Bool else refusal n type_kind.SideUnknown
+typing_of_layer s written.Matched n = typed_matched s n
 typing_of_layer s (written.Column word name) n = typed_name s n name (side_of_word word)
 typing_of_layer s (written.Call name xs) n = typed_args xs (n + 1) >>= typed_call n name
 typing_of_layer s (written.Unary o a) n = a (n + 1) >>= typed_unary n (unary_of_written o)
@@ -119,8 +124,11 @@ typing_of_layer s (written.Binary o a b) n =
     a (n + 1) >>= λ x. b x.next >>= typed_binary n (binary_of_written o) x
 
 -- a tree of any depth
+abbrev pub typing_of : ScopeNames → Written → Typing
+typing_of s e = fold-Expr Typing (typing_of_layer s) e
+
 abbrev pub typed_tree : ScopeNames → ℕ → Written → Result TypedExpr ExprStop
-typed_tree s n e = fold-Expr Typing (typing_of_layer s) e n
+typed_tree s n e = typing_of s e n
 
 -- an expression: its depth is tested before all else
 abbrev pub typed_expr : ScopeNames → ℕ → Written → Result TypedExpr ExprStop

@@ -1,3 +1,4 @@
+pub mod ExprLaws
 pub mod ExprScopes
 pub mod ExprTyping
 pub mod ExprWords

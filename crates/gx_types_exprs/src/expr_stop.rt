@@ -5,6 +5,7 @@ ghost use Rattle.gx_types_exprs.specs.declared.expr_stop.ExprStop.TheVariants as
 
 use crate::TypeKind;
 use gx_rows::NoMemory;
+use std::alloc::AllocError;
 
 /// Why an expression is refused.
 #[derive(Clone, Copy, Debug, PartialEq, Eq)]
@@ -26,6 +27,14 @@ impl From<NoMemory> for ExprStop {
     ghost from_gives = { λ _ made. made ≡ stop.NoMemory };
 
     fn from(_error: NoMemory) -> ExprStop {
+        ExprStop::NoMemory
+    }
+}
+
+impl From<AllocError> for ExprStop {
+    ghost from_gives = { λ _ made. made ≡ stop.NoMemory };
+
+    fn from(_error: AllocError) -> ExprStop {
         ExprStop::NoMemory
     }
 }

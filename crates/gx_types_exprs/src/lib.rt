@@ -7,12 +7,20 @@
 //! expression. It never sees a statement, a name of a table or a graph, or a row.
 #![tactic(auto)]
 
+mod depth;
 mod expr_scope;
 mod expr_stop;
+mod expression;
+mod kinds;
+mod nodes;
+mod tree;
 mod type_kind;
+mod typed_args;
 mod typed_expr;
+mod words;
 
 pub use expr_scope::ExprScope;
 pub use expr_stop::ExprStop;
+pub use expression::{type_expr, type_predicate};
 pub use type_kind::TypeKind;
 pub use typed_expr::TypedExpr;

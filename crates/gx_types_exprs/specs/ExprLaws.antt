@@ -1,0 +1,40 @@
+-- What holds of each expression that is accepted.
+use Rattle.std.specs.Prelude.{◌≡◌, ℕ, ◌+◌, ◌≤◌, max, All, Option, Some, List, [], ◌∷◌, ◌++◌, flat_map}
+use Rattle.gx_rows.specs.Bounds.{IsBoundedValue}
+use Rattle.gx_rows.specs.declared.value.Value.{Value}
+use Rattle.gx_expr.specs.Typing.{kind_of_expr}
+use Rattle.gx_expr.specs.declared.expr.Expr.{Expr}
+use Rattle.gx_expr.specs.declared.expr.Expr.TheFolds.{fold-Expr}
+use Rattle.gx_expr.specs.declared.expr.Expr.TheOpen.{Expr-F}
+use Rattle.gx_expr.specs.declared.expr.Expr.TheOpen as layer
+use Rattle.gx_syntax_tree.specs.Bounds.{greatest}
+use Rattle.gx_types_exprs.specs.ExprScopes.{ScopeNames, scope_type}
+use Rattle.gx_types_exprs.specs.declared.typed_expr.TypedExpr.{TypedExpr}
+
+-- the constants of a numbered tree, from those of its operands
+abbrev pub constants_of_layer : Expr-F (List Value) → List Value
+constants_of_layer (layer.Const n v) = v ∷ []
+constants_of_layer (layer.Unary n o a) = a
+constants_of_layer (layer.Binary n o a b) = a ++ b
+constants_of_layer (layer.Call n f xs) = flat_map (λ x. x) xs
+constants_of_layer _ = []
+
+abbrev pub constants_of : Expr → List Value
+constants_of e = fold-Expr (List Value) constants_of_layer e
+
+-- the depth of a numbered tree
+abbrev pub numbered_depth_of_layer : Expr-F ℕ → ℕ
+numbered_depth_of_layer (layer.Unary n o a) = a + 1
+numbered_depth_of_layer (layer.Binary n o a b) = max a b + 1
+numbered_depth_of_layer (layer.Call n f xs) = greatest xs + 1
+numbered_depth_of_layer _ = 1
+
+abbrev pub numbered_depth : Expr → ℕ
+numbered_depth e = fold-Expr ℕ numbered_depth_of_layer e
+
+-- the tree is well typed in the scope, of the kind beside it, and no deeper than an evaluation goes;
+-- its texts are those of values
+pub record IsWellTyped (s : ScopeNames) (t : TypedExpr) : Type 0 where
+  pub kind_is : kind_of_expr (scope_type s) t.expr ≡ Some t.kind
+  pub constants_bounded : All IsBoundedValue (constants_of t.expr)
+  pub depth_bounded : numbered_depth t.expr ≤ 64
