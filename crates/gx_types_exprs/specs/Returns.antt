@@ -5,19 +5,16 @@ use Rattle.gx_types_exprs.specs.declared.expr_stop.ExprStop.{ExprStop}
 use Rattle.gx_types_exprs.specs.declared.expr_stop.ExprStop.TheVariants as stop
 use Rattle.gx_types_exprs.specs.declared.typed_args.CheckedArgs.{CheckedArgs}
 
--- exactly what is meant, unless memory ran out
-abbrev pub Returns : {A : Type 0} → Result A ExprStop → Result A ExprStop → Type 0
-Returns (Ok x) meant = meant ≡ Ok x
-Returns (Err (stop.At expr kind)) meant = meant ≡ Err (stop.At expr kind)
-Returns (Err stop.Depth) meant = meant ≡ Err stop.Depth
-Returns (Err stop.NoMemory) meant = ⊤
+-- exactly what is defined, unless memory ran out
+abbrev pub ReturnsAs : {A B : Type 0} → (A → B) → Result A ExprStop → Result B ExprStop → Type 0
+ReturnsAs view (Ok x) defined = defined ≡ Ok (view x)
+ReturnsAs view (Err (stop.At expr kind)) defined = defined ≡ Err (stop.At expr kind)
+ReturnsAs view (Err stop.Depth) defined = defined ≡ Err stop.Depth
+ReturnsAs view (Err stop.NoMemory) defined = ⊤
 
--- the same for the arguments of a call
+abbrev pub Returns : {A : Type 0} → Result A ExprStop → Result A ExprStop → Type 0
+Returns result defined = ReturnsAs (λ x. x) result defined
+
+-- the arguments of a call, as they are defined
 abbrev pub args_of : CheckedArgs → TypedArgs
 args_of xs = record { exprs = xs.exprs; kinds = xs.kinds; next = xs.next }
-
-abbrev pub ReturnsArgs : Result CheckedArgs ExprStop → Result TypedArgs ExprStop → Type 0
-ReturnsArgs (Ok xs) meant = meant ≡ Ok (args_of xs)
-ReturnsArgs (Err (stop.At expr kind)) meant = meant ≡ Err (stop.At expr kind)
-ReturnsArgs (Err stop.Depth) meant = meant ≡ Err stop.Depth
-ReturnsArgs (Err stop.NoMemory) meant = ⊤

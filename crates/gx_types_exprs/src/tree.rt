@@ -5,7 +5,7 @@ ghost use Rattle.std.specs.Prelude.{◌≡◌, ◌+◌, ◌<◌, ◌≤◌, ◌^
 ghost use Rattle.gx_syntax_tree.specs.Bounds.{node_count};
 ghost use Rattle.gx_types_exprs.specs.ExprScopes.{scope_names};
 ghost use Rattle.gx_types_exprs.specs.ExprTyping.{typed_args, typed_tree, typing_of};
-ghost use Rattle.gx_types_exprs.specs.Returns.{Returns, ReturnsArgs};
+ghost use Rattle.gx_types_exprs.specs.Returns.{Returns, ReturnsAs, args_of};
 
 use crate::nodes::{leaf, type_binary, type_call, type_column, type_matched, type_unary};
 use crate::typed_args::CheckedArgs;
@@ -75,7 +75,7 @@ fn type_args(
 ) -> Result<CheckedArgs, ExprStop>
     requires { first + sum (map node_count arguments.now) < 2 ^ 32 }
     ensures typed {
-      ReturnsArgs result
+      ReturnsAs args_of result
       (typed_args (map (typing_of (scope_names scope.now)) arguments.now) first)
     }
     ensures counted { IfOk result (λ t. t.next ≡ first + sum (map node_count arguments.now)) }
