@@ -1,7 +1,8 @@
 -- Arguments of a call, checked one after the other.
-use Rattle.std.proofs.Common.{◌≡◌, ℕ, ◌+◌, ◌<◌, ◌≤◌, Result, Ok, Err, List, [], ◌∷◌, ◌++◌, length, map, drop, get_or, refl, sym, ap, ◌∙◌, arith, append_assoc}
+use Rattle.std.proofs.Common.{◌≡◌, ℕ, ◌+◌, ◌<◌, ◌≤◌, Result, Ok, Err, List, [], ◌∷◌, ◌++◌, length, map, drop, get_or, refl, sym, ap, subst, ◌∙◌, arith, append_assoc}
 use Rattle.std.specs.Prelude.{sum}
 use Rattle.std.proofs.lemmas.List.{append-nil, drop_all, drop_more}
+use Rattle.std.proofs.lemmas.List.Sums.{sum_by-cons}
 use Rattle.gx_rows.specs.Results.{◌>>=◌}
 use Rattle.gx_rows.specs.declared.value.ValueKind.{ValueKind}
 use Rattle.gx_expr.specs.declared.expr.Expr.{Expr}
@@ -49,7 +50,8 @@ rest-is xs i x below is = drop_more xs i x below ∙ ap (λ y. y ∷ drop (i + 1
 pub next-counted : (s : ScopeNames) (xs : List Written) (first i : ℕ) (c : CheckedArgs) (x : Written) → i < length xs → x ≡ get_or xs i x → AreChecked s xs first i c
     → c.next + (node_count x + sum (map node_count (drop (i + 1) xs))) ≡ first + sum (map node_count xs)
 next-counted s xs first i c x below is h =
-    let split : sum (map node_count (drop i xs)) ≡ node_count x + sum (map node_count (drop (i + 1) xs)) = ap (λ ys. sum (map node_count ys)) (rest-is xs i x below is) in
+    let split : sum (map node_count (drop i xs)) ≡ node_count x + sum (map node_count (drop (i + 1) xs)) =
+        ap (λ ys. sum (map node_count ys)) (rest-is xs i x below is) ∙ sum_by-cons (λ n. n) (node_count x) (map node_count (drop (i + 1) xs)) in
     rw (← split) h.counted
 
 pub checked-next : (s : ScopeNames) (xs : List Written) (first i : ℕ) (c d : CheckedArgs) (x : Written) (t : TypedExpr) → i < length xs → x ≡ get_or xs i x → AreChecked s xs first i c
@@ -75,7 +77,9 @@ checked-stop s xs first i c x e below is h typed =
 pub checked-all : (s : ScopeNames) (xs : List Written) (first i : ℕ) (c : CheckedArgs) → length xs ≤ i → AreChecked s xs first i c
     → (args_from s xs first ≡ Ok (args_of c)) × (c.next ≡ first + sum (map node_count xs))
 checked-all s xs first i c past h =
-    let none : drop i xs ≡ [] = drop_all xs i past in
-    let so_far : prefixed c.exprs c.kinds (args_from s [] c.next) ≡ args_from s xs first = rw (← none) h.so_far in
-    let counted : c.next + sum (map node_count []) ≡ first + sum (map node_count xs) = rw (← none) h.counted in
+    let none : drop i xs ≡ [] = drop_all i xs past in
+    let so_far : prefixed c.exprs c.kinds (args_from s [] c.next) ≡ args_from s xs first =
+        subst (λ ys. prefixed c.exprs c.kinds (args_from s ys c.next) ≡ args_from s xs first) none h.so_far in
+    let counted : c.next + sum (map node_count []) ≡ first + sum (map node_count xs) =
+        subst (λ ys. c.next + sum (map node_count ys) ≡ first + sum (map node_count xs)) none h.counted in
     (sym so_far ∙ rw (append-nil, append-nil) refl, omega (arith, counted))

@@ -4,13 +4,15 @@ use Rattle.std.proofs.lemmas.List.{length-map}
 use Rattle.std.specs.List.{position_from}
 use Rattle.gx_rows.specs.Columns.{Column, names_of, position_of}
 
+found-at : (b : Bool) (i n r : ℕ) (later : Option ℕ) → (later ≡ Some r → r < i + 1 + n) → cond b (Some i) later ≡ Some r → r < i + (n + 1)
+found-at true i n r later below found = let same : i ≡ r = cc in omega arith
+found-at false i n r later below found = omega (arith, below found)
+
 found-below : {A : Type 0} (test : A → Bool) (i : ℕ) (xs : List A) (r : ℕ) → position_from test i xs ≡ Some r → r < i + length xs
 found-below test i [] r e = cc
-found-below test i (x ∷ xs) r e = go (test x) e
-  where
-    go : (b : Bool) → cond b (Some i) (position_from test (i + 1) xs) ≡ Some r → r < i + length (x ∷ xs)
-    go true found = let same : i ≡ r = cc in omega arith
-    go false later = omega (arith, found-below test (i + 1) xs r later)
+found-below test i (x ∷ xs) r e =
+    let below : r < i + (length xs + 1) = found-at (test x) i (length xs) r (position_from test (i + 1) xs) (found-below test (i + 1) xs r) e in
+    omega arith
 
 -- the position of a column is one of the columns
 pub position-below : (name : List ℕ) (columns : List Column) (r : ℕ) → position_of name (names_of columns) ≡ Some r → r < length columns

@@ -1,5 +1,5 @@
 -- What holds of each expression that is accepted.
-use Rattle.std.specs.Prelude.{◌≡◌, ℕ, ◌+◌, ◌≤◌, max, All, Option, Some, List, [], ◌∷◌, ◌++◌, flat_map}
+use Rattle.std.specs.Prelude.{◌≡◌, ℕ, suc, ◌+◌, ◌≤◌, max, All, Some, Ok, List, [], ◌∷◌, ◌++◌, flat_map}
 use Rattle.gx_rows.specs.Bounds.{IsBoundedValue}
 use Rattle.gx_rows.specs.declared.value.Value.{Value}
 use Rattle.gx_expr.specs.Typing.{kind_of_expr}
@@ -7,8 +7,10 @@ use Rattle.gx_expr.specs.declared.expr.Expr.{Expr}
 use Rattle.gx_expr.specs.declared.expr.Expr.TheFolds.{fold-Expr}
 use Rattle.gx_expr.specs.declared.expr.Expr.TheOpen.{Expr-F}
 use Rattle.gx_expr.specs.declared.expr.Expr.TheOpen as layer
-use Rattle.gx_syntax_tree.specs.Bounds.{greatest}
+use Rattle.gx_syntax_tree.specs.Bounds.{greatest, node_count, texts_in_expr, IsBoundedText}
+use Rattle.gx_syntax_tree.specs.declared.expr.Expr.{Expr as Written}
 use Rattle.gx_types_exprs.specs.ExprScopes.{ScopeNames, scope_type}
+use Rattle.gx_types_exprs.specs.ExprTyping.{typed_expr}
 use Rattle.gx_types_exprs.specs.declared.typed_expr.TypedExpr.{TypedExpr}
 
 -- the constants of a numbered tree, from those of its operands
@@ -24,9 +26,9 @@ constants_of e = fold-Expr (List Value) constants_of_layer e
 
 -- the depth of a numbered tree
 abbrev pub numbered_depth_of_layer : Expr-F ℕ → ℕ
-numbered_depth_of_layer (layer.Unary n o a) = a + 1
-numbered_depth_of_layer (layer.Binary n o a b) = max a b + 1
-numbered_depth_of_layer (layer.Call n f xs) = greatest xs + 1
+numbered_depth_of_layer (layer.Unary n o a) = suc a
+numbered_depth_of_layer (layer.Binary n o a b) = suc (max a b)
+numbered_depth_of_layer (layer.Call n f xs) = suc (greatest xs)
 numbered_depth_of_layer _ = 1
 
 abbrev pub numbered_depth : Expr → ℕ
@@ -38,3 +40,13 @@ pub record IsWellTyped (s : ScopeNames) (t : TypedExpr) : Type 0 where
   pub kind_is : kind_of_expr (scope_type s) t.expr ≡ Some t.kind
   pub constants_bounded : All IsBoundedValue (constants_of t.expr)
   pub depth_bounded : numbered_depth t.expr ≤ 64
+
+-- each expression with short texts that is accepted is well typed
+abbrev pub AcceptedIsWellTyped : Type 0
+AcceptedIsWellTyped =
+    (s : ScopeNames) (n : ℕ) (e : Written) (t : TypedExpr) → All IsBoundedText (texts_in_expr e)
+    → typed_expr s n e ≡ Ok t → IsWellTyped s t
+
+-- the numbers of its nodes are as many as its nodes
+abbrev pub AcceptedIsNumbered : Type 0
+AcceptedIsNumbered = (s : ScopeNames) (n : ℕ) (e : Written) (t : TypedExpr) → typed_expr s n e ≡ Ok t → t.next ≡ n + node_count e

@@ -1,7 +1,6 @@
 //! One node of a tree, whose operands are checked already.
 
-ghost use Rattle.std.specs.Prelude.{◌≡◌, ◌+◌, ◌<◌, ◌^◌, None, Ok, Some};
-ghost use Rattle.gx_expr.specs.declared.expr.Expr.TheVariants as tree;
+ghost use Rattle.std.specs.Prelude.{◌≡◌, ◌+◌, ◌<◌, ◌^◌, IfOk, Ok};
 ghost use Rattle.gx_types_exprs.specs.ExprScopes.{scope_names};
 ghost use Rattle.gx_types_exprs.specs.ExprTyping as typing;
 ghost use Rattle.gx_types_exprs.specs.ExprWords as words;
@@ -20,7 +19,8 @@ use std::alloc::Global;
 /// A node without operands.
 pub(crate) fn leaf(number: u32, expr: Expr, kind: ValueKind) -> TypedExpr
     requires { number + 1 < 2 ^ 32 }
-    ensures { typing.leaf number expr kind ≡ Ok result }
+    ensures typed { typing.leaf number expr kind ≡ Ok result }
+    ensures counted { result.next ≡ number + 1 }
 {
     TypedExpr {
         expr,
@@ -37,10 +37,11 @@ pub(crate) fn type_column(
     name: &str,
 ) -> Result<TypedExpr, ExprStop>
     requires { number + 1 < 2 ^ 32 }
-    ensures {
+    ensures typed {
       Returns result
       (typing.typed_name (scope_names scope.now) number name.now (words.side_of_word word.now))
     }
+    ensures counted { IfOk result (λ t. t.next ≡ number + 1) }
 {
     let Some(side) = side_of_word(word) else {
         return Err(ExprStop::At { expr: number, kind: TypeKind::SideUnknown });
@@ -60,7 +61,8 @@ pub(crate) fn type_column(
 /// `matched`
 pub(crate) fn type_matched(scope: &ExprScope<'_>, number: u32) -> Result<TypedExpr, ExprStop>
     requires { number + 1 < 2 ^ 32 }
-    ensures { Returns result (typing.typed_matched (scope_names scope.now) number) }
+    ensures typed { Returns result (typing.typed_matched (scope_names scope.now) number) }
+    ensures counted { IfOk result (λ t. t.next ≡ number + 1) }
 {
     if !scope.has_matched() {
         return Err(ExprStop::At { expr: number, kind: TypeKind::SideUnknown });
@@ -75,7 +77,8 @@ pub(crate) fn type_unary(
     operator: UnaryOp,
     operand: TypedExpr,
 ) -> Result<TypedExpr, ExprStop>
-    ensures { Returns result (typing.typed_unary number operator operand) }
+    ensures typed { Returns result (typing.typed_unary number operator operand) }
+    ensures counted { IfOk result (λ t. t.next ≡ operand.next) }
 {
     let TypedExpr { expr, kind, next } = operand;
     let Some(kind) = unary_kind(operator, kind) else {
@@ -94,7 +97,8 @@ pub(crate) fn type_binary(
     left: TypedExpr,
     right: TypedExpr,
 ) -> Result<TypedExpr, ExprStop>
-    ensures { Returns result (typing.typed_binary number operator left right) }
+    ensures typed { Returns result (typing.typed_binary number operator left right) }
+    ensures counted { IfOk result (λ t. t.next ≡ right.next) }
 {
     let Some(kind) = binary_kind(operator, left.kind, right.kind) else {
         return Err(ExprStop::At { expr: number, kind: TypeKind::KindWrong });
@@ -112,7 +116,8 @@ pub(crate) fn type_call(
     name: &str,
     arguments: CheckedArgs,
 ) -> Result<TypedExpr, ExprStop>
-    ensures { Returns result (typing.typed_call number name.now (args_of arguments)) }
+    ensures typed { Returns result (typing.typed_call number name.now (args_of arguments)) }
+    ensures counted { IfOk result (λ t. t.next ≡ arguments.next) }
 {
     let CheckedArgs { exprs, kinds, next } = arguments;
     let Some(function) = function_of(name, kinds.len()) else {
