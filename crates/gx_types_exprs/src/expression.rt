@@ -9,6 +9,7 @@ ghost use Rattle.gx_types_exprs.specs.ExprTyping as typing;
 ghost use Rattle.gx_types_exprs.specs.Returns.{Returns};
 
 use crate::depth::is_within_depth;
+use crate::laws::accepted_exprs_are_well_typed;
 use crate::tree::type_tree;
 use crate::{ExprScope, ExprStop, TypeKind, TypedExpr};
 use gx_rows::{LimitKind, ValueKind};
@@ -33,6 +34,21 @@ pub fn type_expr(
     requires short_texts { All IsBoundedText (texts_in_expr expression.now) }
     ensures typed { Returns result (typing.typed_expr (scope_names scope.now) first expression.now) }
     ensures well_typed { IfOk result (IsWellTyped (scope_names scope.now)) }
+    ensures counted { IfOk result (λ t. t.next ≡ first + node_count expression.now) }
+{
+    accepted_exprs_are_well_typed();
+    type_shallow(alloc, expression, scope, first)
+}
+
+// Checks a tree if it is not too deep.
+fn type_shallow(
+    alloc: Global,
+    expression: &Expr,
+    scope: &ExprScope<'_>,
+    first: u32,
+) -> Result<TypedExpr, ExprStop>
+    requires { first + node_count expression.now < 2 ^ 32 }
+    ensures typed { Returns result (typing.typed_expr (scope_names scope.now) first expression.now) }
     ensures counted { IfOk result (λ t. t.next ≡ first + node_count expression.now) }
 {
     if !is_within_depth(expression, LimitKind::Depth.most()) {
