@@ -5,20 +5,19 @@ use Rattle.gx_rows.specs.Results.{◌>>=◌}
 use Rattle.gx_syntax_tree.specs.Bounds.{node_count, node_count-roll, depth, depth-roll, greatest}
 use Rattle.gx_syntax_tree.specs.declared.expr.BinaryOp.{BinaryOp}
 use Rattle.gx_syntax_tree.specs.declared.expr.Expr.{Expr, roll-Expr, map-Expr}
-use Rattle.gx_syntax_tree.specs.declared.expr.Expr.TheFolds.{fold-roll-Expr}
 use Rattle.gx_syntax_tree.specs.declared.expr.Expr.TheOpen.{Expr-F}
 use Rattle.gx_syntax_tree.specs.declared.expr.Expr.TheOpen as layer
 use Rattle.gx_syntax_tree.specs.declared.expr.Expr.TheVariants as exprs
 use Rattle.gx_syntax_tree.specs.declared.expr.Expr.TheVariants.{rolls-Call, rolls-Unary, rolls-Binary}
 use Rattle.gx_syntax_tree.specs.declared.expr.UnaryOp.{UnaryOp}
 use Rattle.gx_types_exprs.specs.ExprScopes.{ScopeNames}
-use Rattle.gx_types_exprs.specs.ExprTyping.{Typing, typing_of, typing_of_layer, typed_tree, typed_args, typed_call, typed_unary, typed_binary}
+use Rattle.gx_types_exprs.specs.ExprTyping.{Typing, typing_of, typing_of-roll, typing_of_layer, typed_tree, typed_args, typed_call, typed_unary, typed_binary}
 use Rattle.gx_types_exprs.specs.ExprWords.{binary_of_written, unary_of_written}
 use Rattle.gx_types_exprs.specs.declared.expr_stop.ExprStop.{ExprStop}
 use Rattle.gx_types_exprs.specs.declared.typed_expr.TypedExpr.{TypedExpr}
 
 pub tree-roll : (s : ScopeNames) (n : ℕ) (x : Expr-F Expr) → typed_tree s n (roll-Expr x) ≡ typing_of_layer s (map-Expr Expr Typing (typing_of s) x) n
-tree-roll s n x = ap (λ (t : Typing). t n) (fold-roll-Expr Typing (typing_of_layer s) x)
+tree-roll s n x = ap (λ (t : Typing). t n) (typing_of-roll s x)
 
 pub tree-call : (s : ScopeNames) (n : ℕ) (name : List ℕ) (xs : List Expr) → typed_tree s n (exprs.Call name xs) ≡ (typed_args (map (typing_of s) xs) (n + 1) >>= typed_call n name)
 tree-call s n name xs = ap (typed_tree s n) (sym (rolls-Call name xs)) ∙ tree-roll s n (layer.Call name xs)

@@ -1,5 +1,5 @@
 -- What holds of each expression that is accepted.
-use Rattle.std.specs.Prelude.{◌≡◌, ℕ, suc, ◌+◌, ◌≤◌, max, All, Some, Ok, List, [], ◌∷◌, ◌++◌, flat_map}
+use Rattle.std.specs.Prelude.{◌≡◌, ℕ, suc, ◌≤◌, max, All, Some, Ok, List, [], ◌∷◌, ◌++◌, flat_map}
 use Rattle.gx_rows.specs.Bounds.{IsBoundedValue}
 use Rattle.gx_rows.specs.declared.value.Value.{Value}
 use Rattle.gx_expr.specs.Typing.{kind_of_expr}
@@ -7,7 +7,7 @@ use Rattle.gx_expr.specs.declared.expr.Expr.{Expr}
 use Rattle.gx_expr.specs.declared.expr.Expr.TheFolds.{fold-Expr}
 use Rattle.gx_expr.specs.declared.expr.Expr.TheOpen.{Expr-F}
 use Rattle.gx_expr.specs.declared.expr.Expr.TheOpen as layer
-use Rattle.gx_syntax_tree.specs.Bounds.{greatest, node_count, texts_in_expr, IsBoundedText}
+use Rattle.gx_syntax_tree.specs.Bounds.{greatest, texts_in_expr, IsBoundedText}
 use Rattle.gx_syntax_tree.specs.declared.expr.Expr.{Expr as Written}
 use Rattle.gx_types_exprs.specs.ExprScopes.{ScopeNames, scope_type}
 use Rattle.gx_types_exprs.specs.ExprTyping.{typed_expr}
@@ -46,7 +46,3 @@ abbrev pub AcceptedIsWellTyped : Type 0
 AcceptedIsWellTyped =
     (s : ScopeNames) (n : ℕ) (e : Written) (t : TypedExpr) → All IsBoundedText (texts_in_expr e)
     → typed_expr s n e ≡ Ok t → IsWellTyped s t
-
--- the numbers of its nodes are as many as its nodes
-abbrev pub AcceptedIsNumbered : Type 0
-AcceptedIsNumbered = (s : ScopeNames) (n : ℕ) (e : Written) (t : TypedExpr) → typed_expr s n e ≡ Ok t → t.next ≡ n + node_count e

@@ -3,7 +3,8 @@
 -- A tree is checked node by node. Its root has the first number, and each operand is numbered after
 -- the nodes of those before it. The operands are checked from left to right, and then the operation;
 -- the first check that fails is the result, with the number of its node.
-use Rattle.std.specs.Prelude.{◌≡◌, ℕ, ◌+◌, nat_eq, nat_le, Bool, true, false, ◌&&◌, if◌then◌else◌, Option, None, Some, Result, Ok, Err, List, [], ◌∷◌, length, slice_get, codes, bytes_eq, refl}
+use Rattle.std.specs.Prelude.{◌≡◌, ℕ, ◌+◌, nat_eq, nat_le, ◌&&◌, if◌then◌else◌, Option, None, Some, Result, Ok, Err, List, [], ◌∷◌, length, slice_get, codes, bytes_eq}
+use Rattle.std.proofs.Common.{ap, ◌∙◌}
 use Rattle.std.specs.Option.{option_and_then, option_map}
 use Rattle.gx_rows.specs.Columns.{Column, names_of, position_of}
 use Rattle.gx_rows.specs.Limits.{most_of}
@@ -16,15 +17,18 @@ use Rattle.gx_expr.specs.Typing.{kind_of_unary, kind_of_binary, kind_of_call}
 use Rattle.gx_expr.specs.declared.expr.Expr.{Expr}
 use Rattle.gx_expr.specs.declared.expr.Expr.TheVariants as expr
 use Rattle.gx_expr.specs.declared.operators.BinaryOp.{BinaryOp}
+use Rattle.gx_expr.specs.declared.operators.BinaryOp.TheVariants as binary
 use Rattle.gx_expr.specs.declared.operators.Function.{Function}
 use Rattle.gx_expr.specs.declared.operators.UnaryOp.{UnaryOp}
 use Rattle.gx_expr.specs.declared.side.Side.{Side}
+use Rattle.gx_expr.specs.declared.side.Side.TheVariants as side
 use Rattle.gx_syntax_tree.specs.Bounds.{depth}
-use Rattle.gx_syntax_tree.specs.declared.expr.Expr.{Expr as Written}
-use Rattle.gx_syntax_tree.specs.declared.expr.Expr.TheFolds.{fold-Expr}
+use Rattle.gx_syntax_tree.specs.declared.expr.BinaryOp.TheVariants as written_binary
+use Rattle.gx_syntax_tree.specs.declared.expr.Expr.{Expr as Written, map-Expr, roll-Expr}
+use Rattle.gx_syntax_tree.specs.declared.expr.Expr.TheFolds.{fold-Expr, fold-roll-Expr}
 use Rattle.gx_syntax_tree.specs.declared.expr.Expr.TheOpen.{Expr-F as Written-F}
 use Rattle.gx_syntax_tree.specs.declared.expr.Expr.TheOpen as written
-use Rattle.gx_types_exprs.specs.ExprScopes.{ScopeNames, has_side, readable_columns, side_has_id}
+use Rattle.gx_types_exprs.specs.ExprScopes.{ScopeNames, has_side, readable_columns, side_has_id, vertex_scope}
 use Rattle.gx_types_exprs.specs.ExprWords.{side_of_word, function_of_word, arity_of, binary_of_written, unary_of_written}
 use Rattle.gx_types_exprs.specs.declared.expr_stop.ExprStop.{ExprStop}
 use Rattle.gx_types_exprs.specs.declared.expr_stop.ExprStop.TheVariants as stop
@@ -141,3 +145,56 @@ truth_typed n t _ = refusal n type_kind.KindWrong
 
 abbrev pub typed_predicate : ScopeNames → ℕ → Written → Result TypedExpr ExprStop
 typed_predicate s n e = typed_expr s n e >>= λ t. truth_typed n t t.kind
+
+-- what a tree is checked to, by its operands
+pub typing_of-roll : (s : ScopeNames) (x : Written-F Written)
+    → typing_of s (roll-Expr x) ≡ typing_of_layer s (map-Expr Written Typing (typing_of s) x)
+typing_of-roll s x = fold-roll-Expr Typing (typing_of_layer s) x
+
+-- ---- examples: a vertex with a number `a` and a text `t`
+
+abbrev example_scope : ScopeNames
+example_scope = vertex_scope ((codes "a", kind.Int) ∷ (codes "t", kind.Text) ∷ [])
+
+abbrev example_column : List ℕ → Result TypedExpr ExprStop
+example_column name = typed_name example_scope 1 name (side_of_word (codes "v"))
+
+abbrev column_layer : List ℕ → Written-F Written
+column_layer name = written.Column (codes "v") name
+
+-- `v.a + v.NAME` is a number; its left operand has number 1, and its right operand number 2
+example_sum : List ℕ → Written
+example_sum name = roll-Expr (written.Binary written_binary.Add (roll-Expr (column_layer (codes "a"))) (roll-Expr (column_layer name)))
+
+sum-typed : (name : List ℕ) → typed_tree example_scope 0 (example_sum name)
+    ≡ (example_column (codes "a") >>= λ x. typed_name example_scope x.next name (side_of_word (codes "v")) >>= typed_binary 0 binary.Add x)
+unfolding example_sum
+sum-typed name =
+    let a : Written = roll-Expr (column_layer (codes "a")) in
+    let b : Written = roll-Expr (column_layer name) in
+    ap (λ (t : Typing). t 0) (typing_of-roll example_scope (written.Binary written_binary.Add a b))
+    ∙ ap (λ (t : Typing). t 1 >>= λ x. typing_of example_scope b x.next >>= typed_binary 0 binary.Add x) (typing_of-roll example_scope (column_layer (codes "a")))
+    ∙ ap (λ (t : Typing). example_column (codes "a") >>= λ x. t x.next >>= typed_binary 0 binary.Add x) (typing_of-roll example_scope (column_layer name))
+
+sums-typed :
+    (typed_tree example_scope 0 (example_sum (codes "a"))
+      ≡ Ok (record { expr = expr.Binary 0 binary.Add (expr.Column 1 side.Vertex 0) (expr.Column 2 side.Vertex 0); kind = kind.Int; next = 3 }))
+    × (typed_tree example_scope 0 (example_sum (codes "t")) ≡ refusal 0 type_kind.KindWrong)
+    × (typed_tree example_scope 0 (example_sum (codes "b")) ≡ refusal 2 type_kind.ColumnUnknown)
+sums-typed = (sum-typed (codes "a"), sum-typed (codes "t"), sum-typed (codes "b"))
+
+-- `foo(v.NAME)`: the argument is checked before the name of the function
+example_call : List ℕ → Written
+example_call name = roll-Expr (written.Call (codes "foo") (roll-Expr (column_layer name) ∷ []))
+
+call-typed : (name : List ℕ) → typed_tree example_scope 0 (example_call name)
+    ≡ (typed_args ((λ n. typed_name example_scope n name (side_of_word (codes "v"))) ∷ []) 1 >>= typed_call 0 (codes "foo"))
+unfolding example_call
+call-typed name =
+    ap (λ (t : Typing). t 0) (typing_of-roll example_scope (written.Call (codes "foo") (roll-Expr (column_layer name) ∷ [])))
+    ∙ ap (λ (t : Typing). typed_args (t ∷ []) 1 >>= typed_call 0 (codes "foo")) (typing_of-roll example_scope (column_layer name))
+
+calls-typed :
+    (typed_tree example_scope 0 (example_call (codes "a")) ≡ refusal 0 type_kind.FunctionUnknown)
+    × (typed_tree example_scope 0 (example_call (codes "b")) ≡ refusal 1 type_kind.ColumnUnknown)
+calls-typed = (call-typed (codes "a"), call-typed (codes "b"))
