@@ -163,56 +163,67 @@ fn the_first_check_that_fails_is_returned(rt: HostRuntime) -> Result<(), Fail> {
     Ok(())
 }
 
+const NUMBER: Outcome = Outcome::Typed(ValueKind::Int, 1);
+const NO_SIDE: Outcome = Outcome::At(0, TypeKind::SideUnknown);
+const NO_COLUMN: Outcome = Outcome::At(0, TypeKind::ColumnUnknown);
+
+// What can be read at each place with two row types. The edges stand for joined rows and messages
+// too.
+fn assert_places<'a>(
+    rt: &impl Abort,
+    alloc: Global,
+    vertices: &'a RowType,
+    edges: &'a RowType,
+) -> Result<(), NoMemory> {
+    let triplet = [
+        ("src.a", NUMBER),
+        ("dst.id", NUMBER),
+        ("edge.w", NUMBER),
+        ("edge.id", NO_COLUMN),
+        ("edge.a", NO_COLUMN),
+        ("v.a", NO_SIDE),
+        ("matched", NO_SIDE),
+    ];
+    assert_each(rt, alloc, &ExprScope::Triplet(vertices, edges), &triplet)?;
+    let join = [
+        ("v.a", NUMBER),
+        ("v.id", NUMBER),
+        ("o.w", NUMBER),
+        ("o.id", NO_COLUMN),
+        ("m.w", NO_SIDE),
+        ("matched", NO_SIDE),
+    ];
+    assert_each(rt, alloc, &ExprScope::Join(vertices, edges), &join)?;
+    let outer_join = [
+        ("o.w", NUMBER),
+        ("v.b", NUMBER),
+        ("matched", Outcome::Typed(ValueKind::Bool, 1)),
+        ("edge.w", NO_SIDE),
+    ];
+    assert_each(rt, alloc, &ExprScope::OuterJoin(vertices, edges), &outer_join)?;
+    let program = [
+        ("m.w", NUMBER),
+        ("v.id", NUMBER),
+        ("m.id", NO_COLUMN),
+        ("o.w", NO_SIDE),
+        ("matched", NO_SIDE),
+    ];
+    assert_each(rt, alloc, &ExprScope::Program(vertices, edges), &program)
+}
+
 #[test]
 fn each_place_has_its_scope(rt: HostRuntime) -> Result<(), Fail> {
-    let alloc = rt.alloc();
-    let vertices = vertex_columns(alloc)?;
-    let edges = edge_columns(alloc)?;
-    let number = Outcome::Typed(ValueKind::Int, 1);
-    let no_side = Outcome::At(0, TypeKind::SideUnknown);
-    let no_column = Outcome::At(0, TypeKind::ColumnUnknown);
-    let triplet = [
-        ("src.a", number),
-        ("dst.id", number),
-        ("edge.w", number),
-        ("edge.id", no_column),
-        ("edge.a", no_column),
-        ("v.a", no_side),
-        ("matched", no_side),
-    ];
-    assert_each(&rt, alloc, &ExprScope::Triplet(&vertices, &edges), &triplet)?;
+    let vertices = vertex_columns(rt.alloc())?;
+    let edges = edge_columns(rt.alloc())?;
+    assert_places(&rt, rt.alloc(), &vertices, &edges)?;
     let edge = [
-        ("edge.w", number),
-        ("src.id", number),
-        ("dst.id", number),
-        ("src.w", no_column),
-        ("v.id", no_side),
+        ("edge.w", NUMBER),
+        ("src.id", NUMBER),
+        ("dst.id", NUMBER),
+        ("src.w", NO_COLUMN),
+        ("v.id", NO_SIDE),
     ];
-    assert_each(&rt, alloc, &ExprScope::Edge(&edges), &edge)?;
-    let join = [
-        ("v.a", number),
-        ("v.id", number),
-        ("o.w", number),
-        ("o.id", no_column),
-        ("m.w", no_side),
-        ("matched", no_side),
-    ];
-    assert_each(&rt, alloc, &ExprScope::Join(&vertices, &edges), &join)?;
-    let outer_join = [
-        ("o.w", number),
-        ("v.b", number),
-        ("matched", Outcome::Typed(ValueKind::Bool, 1)),
-        ("edge.w", no_side),
-    ];
-    assert_each(&rt, alloc, &ExprScope::OuterJoin(&vertices, &edges), &outer_join)?;
-    let program = [
-        ("m.w", number),
-        ("v.id", number),
-        ("m.id", no_column),
-        ("o.w", no_side),
-        ("matched", no_side),
-    ];
-    assert_each(&rt, alloc, &ExprScope::Program(&vertices, &edges), &program)?;
+    assert_each(&rt, rt.alloc(), &ExprScope::Edge(&edges), &edge)?;
     Ok(())
 }
 
