@@ -9,10 +9,10 @@ use Rattle.gx_expr.specs.declared.expr.Expr.{Expr}
 use Rattle.gx_syntax_tree.specs.Bounds.{node_count}
 use Rattle.gx_syntax_tree.specs.declared.expr.Expr.{Expr as Written}
 use Rattle.gx_types_exprs.specs.ExprScopes.{ScopeNames}
-use Rattle.gx_types_exprs.specs.ExprTyping.{Typing, TypedArgs, typed_args, typed_tree, typing_of}
-use Rattle.gx_types_exprs.specs.Returns.{args_of}
+use Rattle.gx_types_exprs.specs.ExprTyping.{Typing, TypedArgs, typed_args, typed_tree, tree_typing}
+use Rattle.gx_types_exprs.specs.Returns.{args_record}
 use Rattle.gx_types_exprs.specs.declared.expr_stop.ExprStop.{ExprStop}
-use Rattle.gx_types_exprs.specs.declared.typed_args.CheckedArgs.{CheckedArgs}
+use Rattle.gx_types_exprs.specs.declared.checked_args.CheckedArgs.{CheckedArgs}
 use Rattle.gx_types_exprs.specs.declared.typed_expr.TypedExpr.{TypedExpr}
 
 -- arguments that are checked already, before those of the rest
@@ -20,7 +20,7 @@ abbrev pub prefixed : List Expr → List ValueKind → Result TypedArgs ExprStop
 prefixed es ks rest = rest >>= λ xs. Ok (record { exprs = es ++ xs.exprs; kinds = ks ++ xs.kinds; next = xs.next })
 
 abbrev pub args_from : ScopeNames → List Written → ℕ → Result TypedArgs ExprStop
-args_from s xs n = typed_args (map (typing_of s) xs) n
+args_from s xs n = typed_args (map (tree_typing s) xs) n
 
 -- the first i arguments are checked
 pub record AreChecked (s : ScopeNames) (xs : List Written) (first i : ℕ) (c : CheckedArgs) : Type 0 where
@@ -51,7 +51,7 @@ pub next-counted : (s : ScopeNames) (xs : List Written) (first i : ℕ) (c : Che
     → c.next + (node_count x + sum (map node_count (drop (i + 1) xs))) ≡ first + sum (map node_count xs)
 next-counted s xs first i c x below is h =
     let split : sum (map node_count (drop i xs)) ≡ node_count x + sum (map node_count (drop (i + 1) xs)) =
-        ap (λ ys. sum (map node_count ys)) (rest-is xs i x below is) ∙ sum_by-cons (λ n. n) (node_count x) (map node_count (drop (i + 1) xs)) in
+    ap (λ ys. sum (map node_count ys)) (rest-is xs i x below is) ∙ sum_by-cons (λ n. n) (node_count x) (map node_count (drop (i + 1) xs)) in
     rw (← split) h.counted
 
 pub checked-next : (s : ScopeNames) (xs : List Written) (first i : ℕ) (c d : CheckedArgs) (x : Written) (t : TypedExpr) → i < length xs → x ≡ get_or xs i x → AreChecked s xs first i c
@@ -59,7 +59,7 @@ pub checked-next : (s : ScopeNames) (xs : List Written) (first i : ℕ) (c d : C
 checked-next s xs first i c d x t below is h typed counted es ks n =
     let split : args_from s (drop i xs) c.next ≡ args_from s (x ∷ drop (i + 1) xs) c.next = ap (λ ys. args_from s ys c.next) (rest-is xs i x below is) in
     let moved : prefixed c.exprs c.kinds (args_from s (x ∷ drop (i + 1) xs) c.next) ≡ prefixed (c.exprs ++ t.expr ∷ []) (c.kinds ++ t.kind ∷ []) (args_from s (drop (i + 1) xs) t.next) =
-        prefixed-more c.exprs c.kinds t (typed_tree s c.next x) (args_from s (drop (i + 1) xs)) typed in
+    prefixed-more c.exprs c.kinds t (typed_tree s c.next x) (args_from s (drop (i + 1) xs)) typed in
     record {
       so_far = rw (es, ks, n) (sym moved ∙ sym (ap (prefixed c.exprs c.kinds) split) ∙ h.so_far);
       counted = omega (arith, next-counted s xs first i c x below is h);
@@ -75,11 +75,11 @@ checked-stop s xs first i c x e below is h typed =
 
 -- all are checked
 pub checked-all : (s : ScopeNames) (xs : List Written) (first i : ℕ) (c : CheckedArgs) → length xs ≤ i → AreChecked s xs first i c
-    → (args_from s xs first ≡ Ok (args_of c)) × (c.next ≡ first + sum (map node_count xs))
+    → (args_from s xs first ≡ Ok (args_record c)) × (c.next ≡ first + sum (map node_count xs))
 checked-all s xs first i c past h =
     let none : drop i xs ≡ [] = drop_all i xs past in
     let so_far : prefixed c.exprs c.kinds (args_from s [] c.next) ≡ args_from s xs first =
-        subst (λ ys. prefixed c.exprs c.kinds (args_from s ys c.next) ≡ args_from s xs first) none h.so_far in
+    subst (λ ys. prefixed c.exprs c.kinds (args_from s ys c.next) ≡ args_from s xs first) none h.so_far in
     let counted : c.next + sum (map node_count []) ≡ first + sum (map node_count xs) =
-        subst (λ ys. c.next + sum (map node_count ys) ≡ first + sum (map node_count xs)) none h.counted in
+    subst (λ ys. c.next + sum (map node_count ys) ≡ first + sum (map node_count xs)) none h.counted in
     (sym so_far ∙ rw (append-nil, append-nil) refl, omega (arith, counted))

@@ -27,7 +27,7 @@ left-next xs most i rest more x below is h counted short =
     let total : sum (map node_count (take i xs ++ x ∷ [])) ≡ sum (map node_count (take i xs)) + sum (node_count x ∷ []) = ap sum counts ∙ sum_by-append (λ n. n) (map node_count (take i xs)) (node_count x ∷ []) in
     let one : sum (node_count x ∷ []) ≡ node_count x + sum [] = sum_by-cons (λ n. n) (node_count x) [] in
     let texts : texts_of (take i xs ++ x ∷ []) ≡ texts_of (take i xs) ++ texts_in_expr x =
-        ap (flat_map (λ x. x)) (map-append texts_in_expr (take i xs) (x ∷ [])) ∙ flat_map-append (λ x. x) (map texts_in_expr (take i xs)) (texts_in_expr x ∷ []) ∙ ap (λ ts. texts_of (take i xs) ++ ts) (append-nil (texts_in_expr x)) in
+    ap (flat_map (λ x. x)) (map-append texts_in_expr (take i xs) (x ∷ [])) ∙ flat_map-append (λ x. x) (map texts_in_expr (take i xs)) (texts_in_expr x ∷ []) ∙ ap (λ ts. texts_of (take i xs) ++ ts) (append-nil (texts_in_expr x)) in
     record {
       counted = omega (arith, h.counted, counted, total, one, ap (λ ys. sum (map node_count ys)) next);
       short = subst (λ ys. All IsBoundedText (texts_of ys)) (sym next) (subst (All IsBoundedText) (sym texts) (All-append IsBoundedText (texts_of (take i xs)) (texts_in_expr x) h.short short));

@@ -26,7 +26,7 @@ use Rattle.gx_syntax_tree.specs.declared.expr.Expr.TheOpen.{Expr-F as Written-F}
 use Rattle.gx_syntax_tree.specs.declared.expr.Expr.TheOpen as written
 use Rattle.gx_types_exprs.specs.ExprLaws.{AcceptedIsWellTyped, IsWellTyped}
 use Rattle.gx_types_exprs.specs.ExprScopes.{ScopeNames, has_side, readable_columns, scope_type, side_has_id}
-use Rattle.gx_types_exprs.specs.ExprTyping.{TypedArgs, Typing, column_of, function_of, leaf, operation, refusal, typed_args, typed_binary, typed_call, typed_column, typed_expr, typed_field, typed_function, typed_matched, typed_name, typed_tree, typed_unary, typing_of, typing_of_layer}
+use Rattle.gx_types_exprs.specs.ExprTyping.{TypedArgs, Typing, column_of, function_of, leaf, operation, refusal, typed_args, typed_binary, typed_call, typed_column, typed_expr, typed_field, typed_function, typed_matched, typed_name, typed_tree, typed_unary, tree_typing, tree_typing_of_layer}
 use Rattle.gx_types_exprs.specs.ExprWords.{binary_of_written, side_of_word, unary_of_written}
 use Rattle.gx_types_exprs.specs.Returns.{Returns}
 use Rattle.gx_types_exprs.specs.declared.expr_stop.ExprStop.{ExprStop}
@@ -136,7 +136,7 @@ abbrev SoundTree : Type 0
 SoundTree = (x : Written) × IsSound x
 
 args-sound : (ys : List SoundTree) (s : ScopeNames) (n : ℕ) (xs : TypedArgs) → All IsBoundedText (flat_map (λ x. x) (map texts_in_expr (map (λ y. y.0) ys)))
-    → typed_args (map (typing_of s) (map (λ y. y.0) ys)) n ≡ Ok xs → HaveFacts (scope_type s) (map depth (map (λ y. y.0) ys)) xs.exprs xs.kinds
+    → typed_args (map (tree_typing s) (map (λ y. y.0) ys)) n ≡ Ok xs → HaveFacts (scope_type s) (map depth (map (λ y. y.0) ys)) xs.exprs xs.kinds
 args-sound [] s n xs short h =
     let es : [] ≡ xs.exprs = cc in
     let ks : [] ≡ xs.kinds = cc in
@@ -145,7 +145,7 @@ args-sound (y ∷ ys) s n xs short h =
     let texts = flat_map (λ x. x) (map texts_in_expr (map (λ y. y.0) ys)) in
     let first = steps-ok (typed_tree s n y.0) _ xs h in
     let t = first.0 in
-    let others = steps-ok (typed_args (map (typing_of s) (map (λ y. y.0) ys)) t.next) _ xs first.1.1 in
+    let others = steps-ok (typed_args (map (tree_typing s) (map (λ y. y.0) ys)) t.next) _ xs first.1.1 in
     let rest = others.0 in
     let one = y.1 s n t (all-left IsBoundedText (texts_in_expr y.0) texts short) first.1.0 in
     let more = args-sound ys s t.next rest (all-right IsBoundedText (texts_in_expr y.0) texts short) others.1.0 in
@@ -158,14 +158,14 @@ abbrev trees_of : Written-F SoundTree → Written-F Written
 trees_of y = map-Expr SoundTree Written (λ y. y.0) y
 
 sound-layer : (y : Written-F SoundTree) (s : ScopeNames) (n : ℕ) (t : TypedExpr) → All IsBoundedText (texts_in_layer (map-Expr Written (List (List ℕ)) texts_in_expr (trees_of y)))
-    → typing_of_layer s (map-Expr Written Typing (typing_of s) (trees_of y)) n ≡ Ok t → Sound s (depth_of_layer (map-Expr Written ℕ depth (trees_of y))) t
+    → tree_typing_of_layer s (map-Expr Written Typing (tree_typing s) (trees_of y)) n ≡ Ok t → Sound s (depth_of_layer (map-Expr Written ℕ depth (trees_of y))) t
 sound-layer (written.Number z) s n t short h = leaf-sound s n t (expr.Const n (value.Int z)) kind.Int h (facts-const (scope_type s) n (value.Int z) tt)
 sound-layer (written.Quoted w) s n t short h = leaf-sound s n t (expr.Const n (value.Text w)) kind.Text h (facts-const (scope_type s) n (value.Text w) (All-head IsBoundedText w [] short))
 sound-layer (written.Truth b) s n t short h = leaf-sound s n t (expr.Const n (value.Bool b)) kind.Bool h (facts-const (scope_type s) n (value.Bool b) tt)
 sound-layer written.Matched s n t short h = matched-sound s n t h
 sound-layer (written.Column word name) s n t short h = name-sound s n name (side_of_word word) t h
 sound-layer (written.Call name ys) s n t short h =
-    let args = steps-ok (typed_args (map (typing_of s) (map (λ y. y.0) ys)) (n + 1)) (typed_call n name) t h in
+    let args = steps-ok (typed_args (map (tree_typing s) (map (λ y. y.0) ys)) (n + 1)) (typed_call n name) t h in
     call-sound s n name (map depth (map (λ y. y.0) ys)) args.0 t (args-sound ys s (n + 1) args.0 short args.1.0) args.1.1
 sound-layer (written.Unary o a) s n t short h =
     let operand = steps-ok (typed_tree s (n + 1) a.0) (typed_unary n (unary_of_written o)) t h in

@@ -11,15 +11,15 @@ use Rattle.gx_syntax_tree.specs.declared.expr.Expr.TheVariants as exprs
 use Rattle.gx_syntax_tree.specs.declared.expr.Expr.TheVariants.{rolls-Call, rolls-Unary, rolls-Binary}
 use Rattle.gx_syntax_tree.specs.declared.expr.UnaryOp.{UnaryOp}
 use Rattle.gx_types_exprs.specs.ExprScopes.{ScopeNames}
-use Rattle.gx_types_exprs.specs.ExprTyping.{Typing, typing_of, typing_of-roll, typing_of_layer, typed_tree, typed_args, typed_call, typed_unary, typed_binary}
+use Rattle.gx_types_exprs.specs.ExprTyping.{Typing, tree_typing, tree_typing-roll, tree_typing_of_layer, typed_tree, typed_args, typed_call, typed_unary, typed_binary}
 use Rattle.gx_types_exprs.specs.ExprWords.{binary_of_written, unary_of_written}
 use Rattle.gx_types_exprs.specs.declared.expr_stop.ExprStop.{ExprStop}
 use Rattle.gx_types_exprs.specs.declared.typed_expr.TypedExpr.{TypedExpr}
 
-pub tree-roll : (s : ScopeNames) (n : ℕ) (x : Expr-F Expr) → typed_tree s n (roll-Expr x) ≡ typing_of_layer s (map-Expr Expr Typing (typing_of s) x) n
-tree-roll s n x = ap (λ (t : Typing). t n) (typing_of-roll s x)
+pub tree-roll : (s : ScopeNames) (n : ℕ) (x : Expr-F Expr) → typed_tree s n (roll-Expr x) ≡ tree_typing_of_layer s (map-Expr Expr Typing (tree_typing s) x) n
+tree-roll s n x = ap (λ (t : Typing). t n) (tree_typing-roll s x)
 
-pub tree-call : (s : ScopeNames) (n : ℕ) (name : List ℕ) (xs : List Expr) → typed_tree s n (exprs.Call name xs) ≡ (typed_args (map (typing_of s) xs) (n + 1) >>= typed_call n name)
+pub tree-call : (s : ScopeNames) (n : ℕ) (name : List ℕ) (xs : List Expr) → typed_tree s n (exprs.Call name xs) ≡ (typed_args (map (tree_typing s) xs) (n + 1) >>= typed_call n name)
 tree-call s n name xs = ap (typed_tree s n) (sym (rolls-Call name xs)) ∙ tree-roll s n (layer.Call name xs)
 
 pub tree-unary : (s : ScopeNames) (n : ℕ) (o : UnaryOp) (a : Expr) → typed_tree s n (exprs.Unary o a) ≡ (typed_tree s (n + 1) a >>= typed_unary n (unary_of_written o))

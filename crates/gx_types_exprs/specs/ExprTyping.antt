@@ -68,8 +68,8 @@ typed_column n d None = refusal n type_kind.ColumnUnknown
 abbrev pub typed_field : ScopeNames → ℕ → List ℕ → Side → Result TypedExpr ExprStop
 typed_field s n name d =
     if has_side s d then
-      (if side_has_id d && bytes_eq name (codes "id") then leaf n (expr.Id n d) kind.Int
-      else typed_column n d (column_of name (readable_columns s d)))
+    (if side_has_id d && bytes_eq name (codes "id") then leaf n (expr.Id n d) kind.Int
+    else typed_column n d (column_of name (readable_columns s d)))
     else refusal n type_kind.SideUnknown
 
 -- a name after a word and a dot, by the side that the word names
@@ -116,23 +116,23 @@ typed_call n name xs = typed_function n xs (function_of name (length xs.kinds))
 -- ---- trees
 
 -- a tree, from its operands
-abbrev pub typing_of_layer : ScopeNames → Written-F Typing → Typing
-typing_of_layer s (written.Number z) n = leaf n (expr.Const n (value.Int z)) kind.Int
-typing_of_layer s (written.Quoted t) n = leaf n (expr.Const n (value.Text t)) kind.Text
-typing_of_layer s (written.Truth b) n = leaf n (expr.Const n (value.Bool b)) kind.Bool
-typing_of_layer s written.Matched n = typed_matched s n
-typing_of_layer s (written.Column word name) n = typed_name s n name (side_of_word word)
-typing_of_layer s (written.Call name xs) n = typed_args xs (n + 1) >>= typed_call n name
-typing_of_layer s (written.Unary o a) n = a (n + 1) >>= typed_unary n (unary_of_written o)
-typing_of_layer s (written.Binary o a b) n =
+abbrev pub tree_typing_of_layer : ScopeNames → Written-F Typing → Typing
+tree_typing_of_layer s (written.Number z) n = leaf n (expr.Const n (value.Int z)) kind.Int
+tree_typing_of_layer s (written.Quoted t) n = leaf n (expr.Const n (value.Text t)) kind.Text
+tree_typing_of_layer s (written.Truth b) n = leaf n (expr.Const n (value.Bool b)) kind.Bool
+tree_typing_of_layer s written.Matched n = typed_matched s n
+tree_typing_of_layer s (written.Column word name) n = typed_name s n name (side_of_word word)
+tree_typing_of_layer s (written.Call name xs) n = typed_args xs (n + 1) >>= typed_call n name
+tree_typing_of_layer s (written.Unary o a) n = a (n + 1) >>= typed_unary n (unary_of_written o)
+tree_typing_of_layer s (written.Binary o a b) n =
     a (n + 1) >>= λ x. b x.next >>= typed_binary n (binary_of_written o) x
 
 -- a tree of any depth
-abbrev pub typing_of : ScopeNames → Written → Typing
-typing_of s e = fold-Expr Typing (typing_of_layer s) e
+abbrev pub tree_typing : ScopeNames → Written → Typing
+tree_typing s e = fold-Expr Typing (tree_typing_of_layer s) e
 
 abbrev pub typed_tree : ScopeNames → ℕ → Written → Result TypedExpr ExprStop
-typed_tree s n e = typing_of s e n
+typed_tree s n e = tree_typing s e n
 
 -- an expression: its depth is tested before all else
 abbrev pub typed_expr : ScopeNames → ℕ → Written → Result TypedExpr ExprStop
@@ -147,9 +147,9 @@ abbrev pub typed_predicate : ScopeNames → ℕ → Written → Result TypedExpr
 typed_predicate s n e = typed_expr s n e >>= λ t. truth_typed n t t.kind
 
 -- what a tree is checked to, by its operands
-pub typing_of-roll : (s : ScopeNames) (x : Written-F Written)
-    → typing_of s (roll-Expr x) ≡ typing_of_layer s (map-Expr Written Typing (typing_of s) x)
-typing_of-roll s x = fold-roll-Expr Typing (typing_of_layer s) x
+pub tree_typing-roll : (s : ScopeNames) (x : Written-F Written)
+    → tree_typing s (roll-Expr x) ≡ tree_typing_of_layer s (map-Expr Written Typing (tree_typing s) x)
+tree_typing-roll s x = fold-roll-Expr Typing (tree_typing_of_layer s) x
 
 -- ---- examples: a vertex with a number `a` and a text `t`
 
@@ -172,13 +172,13 @@ unfolding example_sum
 sum-typed name =
     let a : Written = roll-Expr (column_layer (codes "a")) in
     let b : Written = roll-Expr (column_layer name) in
-    ap (λ (t : Typing). t 0) (typing_of-roll example_scope (written.Binary written_binary.Add a b))
-    ∙ ap (λ (t : Typing). t 1 >>= λ x. typing_of example_scope b x.next >>= typed_binary 0 binary.Add x) (typing_of-roll example_scope (column_layer (codes "a")))
-    ∙ ap (λ (t : Typing). example_column (codes "a") >>= λ x. t x.next >>= typed_binary 0 binary.Add x) (typing_of-roll example_scope (column_layer name))
+    ap (λ (t : Typing). t 0) (tree_typing-roll example_scope (written.Binary written_binary.Add a b))
+    ∙ ap (λ (t : Typing). t 1 >>= λ x. tree_typing example_scope b x.next >>= typed_binary 0 binary.Add x) (tree_typing-roll example_scope (column_layer (codes "a")))
+    ∙ ap (λ (t : Typing). example_column (codes "a") >>= λ x. t x.next >>= typed_binary 0 binary.Add x) (tree_typing-roll example_scope (column_layer name))
 
 sums-typed :
     (typed_tree example_scope 0 (example_sum (codes "a"))
-      ≡ Ok (record { expr = expr.Binary 0 binary.Add (expr.Column 1 side.Vertex 0) (expr.Column 2 side.Vertex 0); kind = kind.Int; next = 3 }))
+    ≡ Ok (record { expr = expr.Binary 0 binary.Add (expr.Column 1 side.Vertex 0) (expr.Column 2 side.Vertex 0); kind = kind.Int; next = 3 }))
     × (typed_tree example_scope 0 (example_sum (codes "t")) ≡ refusal 0 type_kind.KindWrong)
     × (typed_tree example_scope 0 (example_sum (codes "b")) ≡ refusal 2 type_kind.ColumnUnknown)
 sums-typed = (sum-typed (codes "a"), sum-typed (codes "t"), sum-typed (codes "b"))
@@ -191,8 +191,8 @@ call-typed : (name : List ℕ) → typed_tree example_scope 0 (example_call name
     ≡ (typed_args ((λ n. typed_name example_scope n name (side_of_word (codes "v"))) ∷ []) 1 >>= typed_call 0 (codes "foo"))
 unfolding example_call
 call-typed name =
-    ap (λ (t : Typing). t 0) (typing_of-roll example_scope (written.Call (codes "foo") (roll-Expr (column_layer name) ∷ [])))
-    ∙ ap (λ (t : Typing). typed_args (t ∷ []) 1 >>= typed_call 0 (codes "foo")) (typing_of-roll example_scope (column_layer name))
+    ap (λ (t : Typing). t 0) (tree_typing-roll example_scope (written.Call (codes "foo") (roll-Expr (column_layer name) ∷ [])))
+    ∙ ap (λ (t : Typing). typed_args (t ∷ []) 1 >>= typed_call 0 (codes "foo")) (tree_typing-roll example_scope (column_layer name))
 
 calls-typed :
     (typed_tree example_scope 0 (example_call (codes "a")) ≡ refusal 0 type_kind.FunctionUnknown)

@@ -54,10 +54,8 @@ impl<'a> ExprScope<'a> {
 
     // The row type of a side; `None` if no column of the side can be read.
     fn row_type(&self, side: Side) -> Option<&'a RowType>
-        ensures {
-          unwrap_or (option_copied result) []
-          ≡ scopes.readable_columns (scopes.scope_names self.now) side
-        }
+        ensures { unwrap_or (option_copied result) []
+            ≡ scopes.readable_columns (scopes.scope_names self.now) side }
     {
         match (*self, side) {
             (ExprScope::Vertex(v), Side::Vertex) => Some(v),
@@ -76,10 +74,8 @@ impl<'a> ExprScope<'a> {
 
     /// The position and the kind of the column of this name on a side; `None` if there is none.
     pub(crate) fn find(&self, side: Side, name: &str) -> Option<(u32, ValueKind)>
-        ensures {
-          result
-          ≡ column_of name.now (scopes.readable_columns (scopes.scope_names self.now) side)
-        }
+        ensures { result
+            ≡ column_of name.now (scopes.readable_columns (scopes.scope_names self.now) side) }
     {
         match self.row_type(side) {
             Some(row_type) => find_column(row_type, name),

@@ -70,9 +70,7 @@ pub fn type_predicate(
 ) -> Result<TypedExpr, ExprStop>
     requires few_nodes { first + node_count expression.now < 2 ^ 32 }
     requires short_texts { All IsBoundedText (texts_in_expr expression.now) }
-    ensures typed {
-      Returns result (typing.typed_predicate (scope_names scope.now) first expression.now)
-    }
+    ensures typed { Returns result (typing.typed_predicate (scope_names scope.now) first expression.now) }
     ensures well_typed { IfOk result (IsWellTyped (scope_names scope.now)) }
     ensures truth { IfOk result (λ t. t.kind ≡ kind.Bool) }
     ensures counted { IfOk result (λ t. t.next ≡ first + node_count expression.now) }
@@ -80,6 +78,9 @@ pub fn type_predicate(
     let typed = type_expr(alloc, expression, scope, first)?;
     match typed.kind {
         ValueKind::Bool => Ok(typed),
-        _ => Err(ExprStop::At { expr: first, kind: TypeKind::KindWrong }),
+        _ => Err(ExprStop::At {
+            expr: first,
+            kind: TypeKind::KindWrong,
+        }),
     }
 }

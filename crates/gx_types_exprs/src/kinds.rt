@@ -27,11 +27,7 @@ fn are_alike(a: ValueKind, b: ValueKind) -> bool
 fn chosen_kind(a: ValueKind, b: ValueKind) -> Option<ValueKind>
     ensures { result ≡ kind_of_call function.Min (a ∷ b ∷ []) }
 {
-    if are_alike(a, b) {
-        Some(a)
-    } else {
-        None
-    }
+    if are_alike(a, b) { Some(a) } else { None }
 }
 
 /// The kind of an operation with a prefix operator; `None` if it does not take the operand.
@@ -58,12 +54,8 @@ pub(crate) fn binary_kind(
             sum_kind(left, right)
         }
         BinaryOp::And | BinaryOp::Or => truth_kind(left, right),
-        BinaryOp::Eq
-        | BinaryOp::Ne
-        | BinaryOp::Lt
-        | BinaryOp::Le
-        | BinaryOp::Gt
-        | BinaryOp::Ge => compared_kind(left, right),
+        BinaryOp::Eq | BinaryOp::Ne | BinaryOp::Lt | BinaryOp::Le | BinaryOp::Gt | BinaryOp::Ge =>
+            compared_kind(left, right),
     }
 }
 

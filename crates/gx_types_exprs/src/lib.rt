@@ -7,6 +7,7 @@
 //! expression. It never sees a statement, a name of a table or a graph, or a row.
 #![tactic(auto)]
 
+mod checked_args;
 mod depth;
 mod expr_scope;
 mod expr_stop;
@@ -18,7 +19,6 @@ mod nodes;
 mod tests;
 mod tree;
 mod type_kind;
-mod typed_args;
 mod typed_expr;
 mod words;
 

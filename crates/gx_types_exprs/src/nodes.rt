@@ -4,11 +4,11 @@ ghost use Rattle.std.specs.Prelude.{◌≡◌, ◌+◌, ◌<◌, ◌^◌, IfOk, 
 ghost use Rattle.gx_types_exprs.specs.ExprScopes.{scope_names};
 ghost use Rattle.gx_types_exprs.specs.ExprTyping as typing;
 ghost use Rattle.gx_types_exprs.specs.ExprWords as words;
-ghost use Rattle.gx_types_exprs.specs.Returns.{Returns, args_of};
+ghost use Rattle.gx_types_exprs.specs.Returns.{Returns, args_record};
 
+use crate::checked_args::CheckedArgs;
 use crate::expr_scope::side_has_id;
 use crate::kinds::{binary_kind, call_kind, unary_kind};
-use crate::typed_args::CheckedArgs;
 use crate::words::{function_of, side_of_word};
 use crate::{ExprScope, ExprStop, TypeKind, TypedExpr};
 use gx_expr::{BinaryOp, Expr, UnaryOp};
@@ -37,24 +37,31 @@ pub(crate) fn type_column(
     name: &str,
 ) -> Result<TypedExpr, ExprStop>
     requires { number + 1 < 2 ^ 32 }
-    ensures typed {
-      Returns result
-      (typing.typed_name (scope_names scope.now) number name.now (words.side_of_word word.now))
-    }
+    ensures typed { Returns result
+        (typing.typed_name (scope_names scope.now) number name.now (words.side_of_word word.now)) }
     ensures counted { IfOk result (λ t. t.next ≡ number + 1) }
 {
     let Some(side) = side_of_word(word) else {
-        return Err(ExprStop::At { expr: number, kind: TypeKind::SideUnknown });
+        return Err(ExprStop::At {
+            expr: number,
+            kind: TypeKind::SideUnknown,
+        });
     };
     if !scope.has_side(side) {
-        return Err(ExprStop::At { expr: number, kind: TypeKind::SideUnknown });
+        return Err(ExprStop::At {
+            expr: number,
+            kind: TypeKind::SideUnknown,
+        });
     }
     if side_has_id(side) && name == "id" {
         return Ok(leaf(number, Expr::Id(number, side), ValueKind::Int));
     }
     match scope.find(side, name) {
         Some((i, kind)) => Ok(leaf(number, Expr::Column(number, side, i), kind)),
-        None => Err(ExprStop::At { expr: number, kind: TypeKind::ColumnUnknown }),
+        None => Err(ExprStop::At {
+            expr: number,
+            kind: TypeKind::ColumnUnknown,
+        }),
     }
 }
 
@@ -65,7 +72,10 @@ pub(crate) fn type_matched(scope: &ExprScope<'_>, number: u32) -> Result<TypedEx
     ensures counted { IfOk result (λ t. t.next ≡ number + 1) }
 {
     if !scope.has_matched() {
-        return Err(ExprStop::At { expr: number, kind: TypeKind::SideUnknown });
+        return Err(ExprStop::At {
+            expr: number,
+            kind: TypeKind::SideUnknown,
+        });
     }
     Ok(leaf(number, Expr::Matched(number), ValueKind::Bool))
 }
@@ -82,7 +92,10 @@ pub(crate) fn type_unary(
 {
     let TypedExpr { expr, kind, next } = operand;
     let Some(kind) = unary_kind(operator, kind) else {
-        return Err(ExprStop::At { expr: number, kind: TypeKind::KindWrong });
+        return Err(ExprStop::At {
+            expr: number,
+            kind: TypeKind::KindWrong,
+        });
     };
     let operand = Boxed::new(alloc, expr)?;
     let expr = Expr::Unary(number, operator, operand);
@@ -101,7 +114,10 @@ pub(crate) fn type_binary(
     ensures counted { IfOk result (λ t. t.next ≡ right.next) }
 {
     let Some(kind) = binary_kind(operator, left.kind, right.kind) else {
-        return Err(ExprStop::At { expr: number, kind: TypeKind::KindWrong });
+        return Err(ExprStop::At {
+            expr: number,
+            kind: TypeKind::KindWrong,
+        });
     };
     let next = right.next;
     let left = Boxed::new(alloc, left.expr)?;
@@ -116,15 +132,21 @@ pub(crate) fn type_call(
     name: &str,
     arguments: CheckedArgs,
 ) -> Result<TypedExpr, ExprStop>
-    ensures typed { Returns result (typing.typed_call number name.now (args_of arguments)) }
+    ensures typed { Returns result (typing.typed_call number name.now (args_record arguments)) }
     ensures counted { IfOk result (λ t. t.next ≡ arguments.next) }
 {
     let CheckedArgs { exprs, kinds, next } = arguments;
     let Some(function) = function_of(name, kinds.len()) else {
-        return Err(ExprStop::At { expr: number, kind: TypeKind::FunctionUnknown });
+        return Err(ExprStop::At {
+            expr: number,
+            kind: TypeKind::FunctionUnknown,
+        });
     };
     let Some(kind) = call_kind(function, kinds.as_slice()) else {
-        return Err(ExprStop::At { expr: number, kind: TypeKind::KindWrong });
+        return Err(ExprStop::At {
+            expr: number,
+            kind: TypeKind::KindWrong,
+        });
     };
     let expr = Expr::Call(number, function, exprs);
     Ok(TypedExpr { expr, kind, next })

@@ -121,9 +121,20 @@ fn operators_and_functions_take_their_kinds(rt: HostRuntime) -> Result<(), Fail>
     ];
     assert_each(&rt, rt.alloc(), &scope, &accepted)?;
     let refused = [
-        "v.t neg", "v.a not", "v.a v.t +", "v.a v.t ==", "v.a v.c and", "v.a v.a v.a if/3",
-        "v.c v.a v.t if/3", "v.t v.a min/2", "v.t abs/1", "v.a len/1", "v.t v.a concat/2",
-        "v.t text/1", "v.l v.t add/2", "v.a v.l has/2",
+        "v.t neg",
+        "v.a not",
+        "v.a v.t +",
+        "v.a v.t ==",
+        "v.a v.c and",
+        "v.a v.a v.a if/3",
+        "v.c v.a v.t if/3",
+        "v.t v.a min/2",
+        "v.t abs/1",
+        "v.a len/1",
+        "v.t v.a concat/2",
+        "v.t text/1",
+        "v.l v.t add/2",
+        "v.a v.l has/2",
     ];
     for text in refused {
         let expression = written(rt.alloc(), text)?;
@@ -145,7 +156,10 @@ fn the_first_check_that_fails_is_returned(rt: HostRuntime) -> Result<(), Fail> {
         ("foo/0", Outcome::At(0, TypeKind::FunctionUnknown)),
         ("v.a v.b abs/2", Outcome::At(0, TypeKind::FunctionUnknown)),
         ("v.a ids/1", Outcome::At(0, TypeKind::FunctionUnknown)),
-        ("v.a v.b v.a v.b min/4", Outcome::At(0, TypeKind::FunctionUnknown)),
+        (
+            "v.a v.b v.a v.b min/4",
+            Outcome::At(0, TypeKind::FunctionUnknown),
+        ),
         ("v.z foo/1", Outcome::At(1, TypeKind::ColumnUnknown)),
         ("src.a foo/1", Outcome::At(1, TypeKind::SideUnknown)),
         ("v.t neg foo/1", Outcome::At(1, TypeKind::KindWrong)),
@@ -156,7 +170,10 @@ fn the_first_check_that_fails_is_returned(rt: HostRuntime) -> Result<(), Fail> {
         ("v.t src.a +", Outcome::At(2, TypeKind::SideUnknown)),
         ("v.t neg v.z +", Outcome::At(1, TypeKind::KindWrong)),
         ("v.a v.z not +", Outcome::At(3, TypeKind::ColumnUnknown)),
-        ("v.t foo/0 v.z max/3", Outcome::At(2, TypeKind::FunctionUnknown)),
+        (
+            "v.t foo/0 v.z max/3",
+            Outcome::At(2, TypeKind::FunctionUnknown),
+        ),
         ("matched v.z and", Outcome::At(1, TypeKind::SideUnknown)),
     ];
     assert_each(&rt, rt.alloc(), &scope, &refused)?;
@@ -164,7 +181,9 @@ fn the_first_check_that_fails_is_returned(rt: HostRuntime) -> Result<(), Fail> {
 }
 
 const NUMBER: Outcome = Outcome::Typed(ValueKind::Int, 1);
+
 const NO_SIDE: Outcome = Outcome::At(0, TypeKind::SideUnknown);
+
 const NO_COLUMN: Outcome = Outcome::At(0, TypeKind::ColumnUnknown);
 
 // What can be read at each place with two row types. The edges stand for joined rows and messages
@@ -200,7 +219,12 @@ fn assert_places<'a>(
         ("matched", Outcome::Typed(ValueKind::Bool, 1)),
         ("edge.w", NO_SIDE),
     ];
-    assert_each(rt, alloc, &ExprScope::OuterJoin(vertices, edges), &outer_join)?;
+    assert_each(
+        rt,
+        alloc,
+        &ExprScope::OuterJoin(vertices, edges),
+        &outer_join,
+    )?;
     let program = [
         ("m.w", NUMBER),
         ("v.id", NUMBER),
@@ -276,7 +300,8 @@ fn nodes_are_numbered_in_text_order(rt: HostRuntime) -> Result<(), Fail> {
     if let Ok(typed) = type_expr(alloc, &expression, &scope, 10) {
         put_nodes(alloc, &mut nodes, &typed.expr)?;
     }
-    let expected = "10 If, 11 Vertex 3, 12 Add, 13 Vertex 0, 14 Len, 15 Vertex 2, 16 Neg, 17 Vertex, ";
+    let expected =
+        "10 If, 11 Vertex 3, 12 Add, 13 Vertex 0, 14 Len, 15 Vertex 2, 16 Neg, 17 Vertex, ";
     assert_eq!(rt; nodes.as_str(), expected);
     Ok(())
 }

@@ -4,11 +4,11 @@
 ghost use Rattle.std.specs.Prelude.{◌≡◌, ◌+◌, ◌<◌, ◌≤◌, ◌^◌, IfOk, map, sum};
 ghost use Rattle.gx_syntax_tree.specs.Bounds.{node_count};
 ghost use Rattle.gx_types_exprs.specs.ExprScopes.{scope_names};
-ghost use Rattle.gx_types_exprs.specs.ExprTyping.{typed_args, typed_tree, typing_of};
-ghost use Rattle.gx_types_exprs.specs.Returns.{Returns, ReturnsAs, args_of};
+ghost use Rattle.gx_types_exprs.specs.ExprTyping.{typed_args, typed_tree, tree_typing};
+ghost use Rattle.gx_types_exprs.specs.Returns.{Returns, ReturnsAs, args_record};
 
+use crate::checked_args::CheckedArgs;
 use crate::nodes::{leaf, type_binary, type_call, type_column, type_matched, type_unary};
-use crate::typed_args::CheckedArgs;
 use crate::words::{binary_of_written, unary_of_written};
 use crate::{ExprScope, ExprStop, TypedExpr};
 use gx_expr::Expr;
@@ -74,10 +74,8 @@ fn type_args(
     first: u32,
 ) -> Result<CheckedArgs, ExprStop>
     requires { first + sum (map node_count arguments.now) < 2 ^ 32 }
-    ensures typed {
-      ReturnsAs args_of result
-      (typed_args (map (typing_of (scope_names scope.now)) arguments.now) first)
-    }
+    ensures typed { ReturnsAs args_record result
+        (typed_args (map (tree_typing (scope_names scope.now)) arguments.now) first) }
     ensures counted { IfOk result (λ t. t.next ≡ first + sum (map node_count arguments.now)) }
 {
     let mut checked = CheckedArgs::new(alloc, first);

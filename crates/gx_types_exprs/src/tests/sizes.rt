@@ -36,9 +36,7 @@ pub(crate) fn remaining_nodes(expression: &Expr, most: u32) -> Option<u32>
 #[cycle(sizes)]
 fn remaining_of_all(expressions: &Items<Expr>, most: u32) -> Option<u32>
     ensures counted { IfSome result (λ rest. rest + sum (map node_count expressions.now) ≡ most) }
-    ensures short {
-      IfSome result (λ _. All IsBoundedText (flat_map (λ x. x) (map texts_in_expr expressions.now)))
-    }
+    ensures short { IfSome result (λ _. All IsBoundedText (flat_map (λ x. x) (map texts_in_expr expressions.now))) }
 {
     let mut rest = most;
     'expressions: for expression in expressions.as_slice() {

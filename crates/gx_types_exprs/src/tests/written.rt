@@ -40,12 +40,7 @@ fn next_expr(alloc: Global, stack: &mut Vec<Expr>, word: &str) -> Result<Expr, N
     leaf(alloc, word)
 }
 
-fn call(
-    alloc: Global,
-    stack: &mut Vec<Expr>,
-    name: &str,
-    count: &str,
-) -> Result<Expr, NoMemory> {
+fn call(alloc: Global, stack: &mut Vec<Expr>, name: &str, count: &str) -> Result<Expr, NoMemory> {
     let count = match count {
         "0" => 0,
         "1" => 1,
