@@ -3,9 +3,9 @@
 ghost use Rattle.std.specs.Prelude.{◌≡◌, ◌+◌, ◌<◌, ◌^◌, All, IfOk};
 ghost use Rattle.gx_rows.specs.declared.value.ValueKind.TheVariants as kind;
 ghost use Rattle.gx_syntax_tree.specs.Bounds.{IsBoundedText, node_count, texts_in_expr};
-ghost use Rattle.gx_types_exprs.specs.ExprLaws.{IsWellTyped};
+ghost use Rattle.gx_types_exprs.specs.ExprLaws.{IsNumbered, IsWellTyped};
 ghost use Rattle.gx_types_exprs.specs.ExprScopes.{scope_names};
-ghost use Rattle.gx_types_exprs.specs.ExprTyping as typing;
+ghost use Rattle.gx_types_exprs.specs.ExprTyping.{typed_expr, typed_predicate};
 ghost use Rattle.gx_types_exprs.specs.Returns.{Returns};
 
 use crate::depth::is_within_depth;
@@ -32,8 +32,9 @@ pub fn type_expr(
 ) -> Result<TypedExpr, ExprStop>
     requires few_nodes { first + node_count expression.now < 2 ^ 32 }
     requires short_texts { All IsBoundedText (texts_in_expr expression.now) }
-    ensures typed { Returns result (typing.typed_expr (scope_names scope.now) first expression.now) }
+    ensures typed { Returns result (typed_expr (scope_names scope.now) first expression.now) }
     ensures well_typed { IfOk result (IsWellTyped (scope_names scope.now)) }
+    ensures numbered { IfOk result (IsNumbered first (node_count expression.now)) }
     ensures counted { IfOk result (λ t. t.next ≡ first + node_count expression.now) }
 {
     accepted_exprs_are_well_typed();
@@ -48,7 +49,7 @@ fn type_shallow(
     first: u32,
 ) -> Result<TypedExpr, ExprStop>
     requires { first + node_count expression.now < 2 ^ 32 }
-    ensures typed { Returns result (typing.typed_expr (scope_names scope.now) first expression.now) }
+    ensures typed { Returns result (typed_expr (scope_names scope.now) first expression.now) }
     ensures counted { IfOk result (λ t. t.next ≡ first + node_count expression.now) }
 {
     if !is_within_depth(expression, LimitKind::Depth.most()) {
@@ -70,10 +71,11 @@ pub fn type_predicate(
 ) -> Result<TypedExpr, ExprStop>
     requires few_nodes { first + node_count expression.now < 2 ^ 32 }
     requires short_texts { All IsBoundedText (texts_in_expr expression.now) }
-    ensures typed { Returns result (typing.typed_predicate (scope_names scope.now) first expression.now) }
+    ensures typed { Returns result (typed_predicate (scope_names scope.now) first expression.now) }
     ensures well_typed { IfOk result (IsWellTyped (scope_names scope.now)) }
-    ensures truth { IfOk result (λ t. t.kind ≡ kind.Bool) }
+    ensures numbered { IfOk result (IsNumbered first (node_count expression.now)) }
     ensures counted { IfOk result (λ t. t.next ≡ first + node_count expression.now) }
+    ensures truth { IfOk result (λ t. t.kind ≡ kind.Bool) }
 {
     let typed = type_expr(alloc, expression, scope, first)?;
     match typed.kind {
