@@ -22,13 +22,24 @@ pub record ScopeNames : Type 0 where
 
 -- ---- each place of a script
 
+abbrev no_scope : ScopeNames
+no_scope = record {
+  vertex = None;
+  src = None;
+  dst = None;
+  edge = None;
+  other = None;
+  message = None;
+  has_matched = false;
+}
+
 -- `v` alone: a vertex of a graph, or a row of a table
 abbrev pub vertex_scope : List Column → ScopeNames
-vertex_scope v = record { vertex = Some v; src = None; dst = None; edge = None; other = None; message = None; has_matched = false }
+vertex_scope v = record no_scope { vertex = Some v }
 
 -- `src`, `dst` and `edge`: an edge with the rows of both ends
 abbrev pub triplet_scope : List Column → List Column → ScopeNames
-triplet_scope ends edge = record { vertex = None; src = Some ends; dst = Some ends; edge = Some edge; other = None; message = None; has_matched = false }
+triplet_scope ends edge = record no_scope { src = Some ends; dst = Some ends; edge = Some edge }
 
 -- `edge`, and `src` and `dst` with their identifiers alone
 abbrev pub edge_scope : List Column → ScopeNames
@@ -36,15 +47,15 @@ edge_scope edge = triplet_scope [] edge
 
 -- `v` and `o`: a row and the one that it is joined with
 abbrev pub join_scope : List Column → List Column → ScopeNames
-join_scope v o = record { vertex = Some v; src = None; dst = None; edge = None; other = Some o; message = None; has_matched = false }
+join_scope v o = record no_scope { vertex = Some v; other = Some o }
 
 -- `v`, `o` and `matched`: `o` is a default row if there is none to join with
 abbrev pub outer_join_scope : List Column → List Column → ScopeNames
-outer_join_scope v o = record { vertex = Some v; src = None; dst = None; edge = None; other = Some o; message = None; has_matched = true }
+outer_join_scope v o = record no_scope { vertex = Some v; other = Some o; has_matched = true }
 
 -- `v` and `m`: a vertex and its merged message
 abbrev pub program_scope : List Column → List Column → ScopeNames
-program_scope v m = record { vertex = Some v; src = None; dst = None; edge = None; other = None; message = Some m; has_matched = false }
+program_scope v m = record no_scope { vertex = Some v; message = Some m }
 
 -- what the code's scope of a place says
 abbrev pub scope_names : ExprScope → ScopeNames

@@ -22,8 +22,8 @@ use std::alloc::Global;
 ///
 /// # Errors
 ///
-/// `Depth` if it is more than 64 deep, before all else; `At` at the first check that fails, with the
-/// number of its node; `NoMemory` if memory runs out.
+/// `Depth` if it is more than 64 deep, before all else; `At` at the first check that fails, with
+/// the number of its node; `NoMemory` if memory runs out.
 pub fn type_expr(
     alloc: Global,
     expression: &Expr,

@@ -64,8 +64,8 @@ pub(crate) fn type_tree(
     }
 }
 
-// The arguments of a call, numbered one after the other from `first` on. The list is taken as a tree
-// holds it, so that the check sees that they are parts of the call.
+// The arguments of a call, numbered one after the other from `first` on. The list is taken as a
+// tree holds it, so that the check sees that they are parts of the call.
 #[cycle(tree)]
 fn type_args(
     alloc: Global,

@@ -6,8 +6,8 @@ ghost use Rattle.gx_syntax_tree.specs.Bounds.{IsBoundedText, node_count, texts_i
 use gx_syntax_tree::Expr;
 use sqlite_items::Items;
 
-/// What is left of `most` after the nodes of an expression; `None` if it has more, or a text of more
-/// than 1,024 bytes.
+/// What is left of `most` after the nodes of an expression; `None` if it has more, or a text of
+/// more than 1,024 bytes.
 #[cycle(sizes)]
 pub(crate) fn remaining_nodes(expression: &Expr, most: u32) -> Option<u32>
     ensures counted { IfSome result (λ rest. rest + node_count expression.now ≡ most) }
