@@ -9,7 +9,7 @@ use Rattle.gx_expr.specs.declared.expr.Expr.{Expr}
 use Rattle.gx_syntax_tree.specs.Bounds.{node_count}
 use Rattle.gx_syntax_tree.specs.declared.expr.Expr.{Expr as Written}
 use Rattle.gx_types_exprs.specs.ExprScopes.{ScopeNames}
-use Rattle.gx_types_exprs.specs.ExprTyping.{Typing, TypedArgs, typed_args, typed_tree, tree_typing}
+use Rattle.gx_types_exprs.specs.ExprTyping.{TypedArgs, typed_args, typed_tree, tree_typing}
 use Rattle.gx_types_exprs.specs.Returns.{args_record}
 use Rattle.gx_types_exprs.specs.declared.expr_stop.ExprStop.{ExprStop}
 use Rattle.gx_types_exprs.specs.declared.checked_args.CheckedArgs.{CheckedArgs}

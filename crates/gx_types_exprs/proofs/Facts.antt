@@ -1,5 +1,5 @@
 -- The kind, the constants and the depth of a numbered tree, by its operands.
-use Rattle.std.proofs.Common.{◌≡◌, ℕ, suc, Bool, true, Option, None, Some, List, [], ◌∷◌, ◌++◌, map, max, refl, sym, ap, subst, ◌∙◌}
+use Rattle.std.proofs.Common.{◌≡◌, ℕ, suc, true, Option, Some, List, [], ◌∷◌, ◌++◌, map, max, refl, sym, ap, subst, ◌∙◌}
 use Rattle.std.specs.Prelude.{All, flat_map, slice_get}
 use Rattle.std.proofs.lemmas.List.Elements.{All-nil, All-cons, All-append}
 use Rattle.gx_rows.specs.Bounds.{IsBoundedValue}

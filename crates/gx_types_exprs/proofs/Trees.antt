@@ -1,5 +1,5 @@
 -- What a tree is checked to, by its operands.
-use Rattle.std.proofs.Common.{◌≡◌, ℕ, suc, ◌+◌, Result, List, map, sym, ap, ◌∙◌}
+use Rattle.std.proofs.Common.{◌≡◌, ℕ, suc, ◌+◌, List, map, sym, ap, ◌∙◌}
 use Rattle.std.specs.Prelude.{sum}
 use Rattle.gx_rows.specs.Results.{◌>>=◌}
 use Rattle.gx_syntax_tree.specs.Bounds.{node_count, node_count-roll, depth, depth-roll, greatest}
@@ -13,8 +13,6 @@ use Rattle.gx_syntax_tree.specs.declared.expr.UnaryOp.{UnaryOp}
 use Rattle.gx_types_exprs.specs.ExprScopes.{ScopeNames}
 use Rattle.gx_types_exprs.specs.ExprTyping.{Typing, tree_typing, tree_typing-roll, tree_typing_of_layer, typed_tree, typed_args, typed_call, typed_unary, typed_binary}
 use Rattle.gx_types_exprs.specs.ExprWords.{binary_of_written, unary_of_written}
-use Rattle.gx_types_exprs.specs.declared.expr_stop.ExprStop.{ExprStop}
-use Rattle.gx_types_exprs.specs.declared.typed_expr.TypedExpr.{TypedExpr}
 
 pub tree-roll : (s : ScopeNames) (n : ℕ) (x : Expr-F Expr) → typed_tree s n (roll-Expr x) ≡ tree_typing_of_layer s (map-Expr Expr Typing (tree_typing s) x) n
 tree-roll s n x = ap (λ (t : Typing). t n) (tree_typing-roll s x)

@@ -1,7 +1,7 @@
 -- What the words and operators of an expression stand for.
 --
 -- To add a function, add its line here and its arm in src/words.rt.
-use Rattle.std.specs.Prelude.{ℕ, Bool, ◌&&◌, nat_eq, if◌then◌else◌, Option, None, Some, List, codes, bytes_eq}
+use Rattle.std.specs.Prelude.{ℕ, if◌then◌else◌, Option, None, Some, List, codes, bytes_eq}
 use Rattle.gx_expr.specs.declared.operators.BinaryOp.{BinaryOp}
 use Rattle.gx_expr.specs.declared.operators.BinaryOp.TheVariants as binary
 use Rattle.gx_expr.specs.declared.operators.Function.{Function}

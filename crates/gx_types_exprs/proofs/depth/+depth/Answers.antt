@@ -1,5 +1,5 @@
-use Rattle.std.proofs.Common.{◌≡◌, ◌∙◌, suc, nat_le, map, ap, sym, arith}
-use Rattle.gx_syntax_tree.specs.Bounds.{depth, greatest}
+use Rattle.std.proofs.Common.{◌∙◌, nat_le, ap, sym, arith}
+use Rattle.gx_syntax_tree.specs.Bounds.{depth}
 use Rattle.gx_types_exprs.proofs.Depths.{suc-within}
 use Rattle.gx_types_exprs.proofs.Trees.{depth-call}
 use Rattle.gx_types_exprs.proofs.depth.+depth.Goals as goal

@@ -1,4 +1,3 @@
-use Rattle.std.proofs.Common.{◌∙◌, sym}
 use Rattle.gx_types_exprs.proofs.Columns.{position-below}
 use Rattle.gx_types_exprs.proofs.expr_scope.find_column.Goals as goal
 

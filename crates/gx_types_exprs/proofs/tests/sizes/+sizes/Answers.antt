@@ -1,5 +1,5 @@
-use Rattle.std.proofs.Common.{◌≡◌, ◌∙◌, IfSome, All, ap, sym, subst, arith}
-use Rattle.gx_syntax_tree.specs.Bounds.{IsBoundedText, node_count, texts_in_expr}
+use Rattle.std.proofs.Common.{◌∙◌, ap, arith}
+use Rattle.gx_syntax_tree.specs.Bounds.{node_count, texts_in_expr}
 use Rattle.gx_types_exprs.proofs.NodeSizes.{counted-moved, short-joined, texts-binary}
 use Rattle.gx_types_exprs.proofs.Trees.{count-call}
 use Rattle.gx_types_exprs.proofs.tests.sizes.+sizes.Goals as goal
