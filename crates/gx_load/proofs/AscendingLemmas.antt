@@ -119,8 +119,8 @@ same_numbers (x ∷ xs) (y ∷ ys) up vp same =
   where
     rest_same : (z : ℤ) → x ≡ y → times z (x ∷ xs) ≡ times z (y ∷ ys) → times z xs ≡ times z ys
     rest_same z e h =
-        let f : cond (int_eq x z) 1 0 ≡ cond (int_eq y z) 1 0 = ap (λ (v : ℤ). cond (int_eq v z) 1 0) e in
-        omega (arith, times-cons z x xs, times-cons z y ys)
+        let f : ◌≡◌ {A = ℕ} (cond (int_eq x z) 1 0) (cond (int_eq y z) 1 0) = ap (λ (v : ℤ). cond (int_eq v z) 1 0) e in
+        omega (arith, f, h, times-cons z x xs, times-cons z y ys)
 
 -- ---- what a sort gives ascends
 

@@ -44,7 +44,7 @@ numbers_in-done front words defined none so_far = sym so_far ∙ try_append-done
 
 pub text_of_cell-short : (cell : List ℕ) → IsUtf8 cell → length cell ≤ MOST_TEXT_BYTES → text_of_cell cell ≡ Ok cell
 unfolding text_of_cell
-text_of_cell-short cell utf8 short = rw (is_utf8-from_IsUtf8 cell utf8, le-ltb (length cell) MOST_TEXT_BYTES short) refl
+text_of_cell-short cell utf8 short = rw (is_utf8-from_IsUtf8 cell utf8, le-ltb MOST_TEXT_BYTES (length cell) short) refl
 
 pub text_of_cell-long : (cell : List ℕ) → IsUtf8 cell → MOST_TEXT_BYTES < length cell → text_of_cell cell ≡ Err cell_kind.TextTooLong
 unfolding text_of_cell
@@ -63,7 +63,7 @@ text_of_cell-not_utf8 cell not_utf8 = go (is_utf8 cell) refl
 pub ids_of_cell-short : (cell : List ℕ) (numbers : List ℤ) → numbers_in (words_of is_blank cell) ≡ Ok numbers
     → length numbers ≤ MOST_LIST_ENTRIES → ids_of_cell cell ≡ Ok (ascending numbers)
 unfolding ids_of_cell
-ids_of_cell-short cell numbers spelled short = rw (spelled, le-ltb (length numbers) MOST_LIST_ENTRIES short) refl
+ids_of_cell-short cell numbers spelled short = rw (spelled, le-ltb MOST_LIST_ENTRIES (length numbers) short) refl
 
 pub ids_of_cell-long : (cell : List ℕ) (numbers : List ℤ) → numbers_in (words_of is_blank cell) ≡ Ok numbers
     → MOST_LIST_ENTRIES < length numbers → ids_of_cell cell ≡ Err cell_kind.ListTooLong

@@ -1,5 +1,7 @@
 -- The first word of a text, and its first line.
 use Rattle.std.proofs.Common.{◌≡◌, ◌+◌, ◌<◌, ◌≤◌, ◌∙◌, ℕ, Bool, true, false, not, cond, min, List, [], ◌∷◌, length, take, drop, ◌-◌, length-drop, filter, refl, sym, ap, arith, zero, suc, add-one}
+use Rattle.std.specs.Bool.{◌==◌}
+use Rattle.std.proofs.lemmas.Bool.Decides.{nat_tests}
 use Rattle.std.proofs.lemmas.List.{take_all}
 use Rattle.std.specs.List.{onto_first, prefix_len, slice_split}
 use Rattle.std.proofs.lemmas.List.Folds.{length-prefix_len}
@@ -122,32 +124,34 @@ line_passed line text =
     rw f.1 (ap (λ (ls : List (ℕ × List ℕ)). cond (has_edge (words_of is_line_space (take (piece_len is_line_feed text) text))) ((line, take (piece_len is_line_feed text) text) ∷ ls) ls)
     (lines_after (line + 1) (drop (piece_len is_line_feed text) text) f.0 f.2))
 
--- the bytes after the first line
-abbrev pub text_after : ℕ → List ℕ → List ℕ
-text_after len text = tail (min (length (tail len text)) 1) (tail len text)
+-- how many bytes are skipped after a line of so many bytes: its line feed, if it has one
+abbrev pub feed_len : ℕ → List ℕ → ℕ
+feed_len len text = min (length (tail len text)) 1
 
-text_after_is : (len : ℕ) (text : List ℕ) → text_after len text ≡ drop 1 (drop len text)
-text_after_is len text = drop_first (tail len text) ∙ ap (drop 1) (tail_is len text)
+after_feed : (len feed : ℕ) (text : List ℕ) → feed ≡ feed_len len text → tail feed (tail len text) ≡ drop 1 (drop len text)
+after_feed len feed text is = rw is (drop_first (tail len text) ∙ ap (drop 1) (tail_is len text))
 
 -- a line that has an edge is the first of those that have one
-pub line_taken : (line : ℕ) (text : List ℕ) (len : ℕ) → len ≡ piece_len is_line_feed text
+pub line_taken : (line : ℕ) (text : List ℕ) (len feed : ℕ) → len ≡ piece_len is_line_feed text → feed ≡ feed_len len text
     → has_edge (words_of is_line_space (take len text)) ≡ true
-    → edge_lines_from line text ≡ (line, take len text) ∷ edge_lines_from (line + 1) (text_after len text)
-line_taken line text len is edge = rw (text_after_is len text, is) (rw (line_passed line text, ← is, edge) refl)
+    → edge_lines_from line text ≡ (line, take len text) ∷ edge_lines_from (line + 1) (tail feed (tail len text))
+line_taken line text len feed is after edge = rw (after_feed len feed text after, is) (rw (line_passed line text, ← is, edge) refl)
 
 -- another line is skipped
-pub line_skipped : (line : ℕ) (text : List ℕ) (len : ℕ) → len ≡ piece_len is_line_feed text
+pub line_skipped : (line : ℕ) (text : List ℕ) (len feed : ℕ) → len ≡ piece_len is_line_feed text → feed ≡ feed_len len text
     → has_edge (words_of is_line_space (take len text)) ≡ false
-    → edge_lines_from line text ≡ edge_lines_from (line + 1) (text_after len text)
-line_skipped line text len is other = rw (text_after_is len text, is) (rw (line_passed line text, ← is, other) refl)
+    → edge_lines_from line text ≡ edge_lines_from (line + 1) (tail feed (tail len text))
+line_skipped line text len feed is after other = rw (after_feed len feed text after, is) (rw (line_passed line text, ← is, other) refl)
 
--- after a line the text is shorter
-pub text_after-shorter : (len : ℕ) (text : List ℕ) → 0 < length text → length (text_after len text) < length text
-text_after-shorter len text some =
-    rw (text_after_is len text) (omega (arith, length-drop 1 (drop len text), length-drop len text))
+-- the bytes after a line are fewer
+pub after_feed-shorter : (len feed : ℕ) (text : List ℕ) → feed ≡ feed_len len text → ((length text == 0) ≡ false)
+    → length (tail feed (tail len text)) < length text
+after_feed-shorter len feed text is some =
+    let more : 0 < length text = grind (arith, nat_tests) in
+    rw (after_feed len feed text is) (omega (arith, length-drop 1 (drop len text), length-drop len text))
 
 -- no text, no line
-pub no_edge_line : (line : ℕ) (text : List ℕ) → length text ≡ 0 → edge_lines_from line text ≡ []
+pub no_edge_line : (line : ℕ) (text : List ℕ) → (length text == 0) ≡ true → edge_lines_from line text ≡ []
 unfolding edge_lines_from words_of
 no_edge_line line [] none = refl
-no_edge_line line (byte ∷ rest) none = absurd (omega arith)
+no_edge_line line (byte ∷ rest) none = let h : length (byte ∷ rest) ≡ 0 = grind (arith, nat_tests) in absurd (omega arith)
