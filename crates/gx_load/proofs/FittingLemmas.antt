@@ -1,6 +1,6 @@
 -- Rows that were loaded fit their columns, and are not too many.
 use Rattle.std.proofs.Common.{◌≡◌, ◌+◌, ◌<◌, ◌≤◌, ◌∙◌, ℕ, ℤ, Bool, true, false, cond, [], ◌∷◌, List, map, length, Option, None, Some, Result, Ok, Err, refl, sym, ap, subst, arith}
-use Rattle.std.specs.Prelude.{All, IfOk, nat_lt, option_map, ok_or, ◌==◌, pos}
+use Rattle.std.specs.Prelude.{All, ◌&&◌, int_lt, nat_lt, option_map, ok_or, ◌==◌, pos}
 use Rattle.std.specs.Str.{is_utf8}
 use Rattle.std.proofs.lemmas.Bool.{le-ltb, lt-ltb}
 use Rattle.std.proofs.lemmas.Bool.Decides.{nat_tests}
@@ -18,12 +18,12 @@ use Rattle.gx_load.specs.Cells.{bool_of, int_of, is_blank, words_of}
 use Rattle.gx_load.specs.CellValues.{cell_value, ids_of_cell, list_of_numbers, numbers_in, text_of_cell}
 use Rattle.gx_load.specs.EdgeLists.{edge_at, edge_between, edge_row, ends_in, is_line_space}
 use Rattle.gx_load.specs.Fitting.{FitsColumns}
-use Rattle.gx_load.specs.LoadResults.{Gives}
-use Rattle.gx_load.specs.Loading.{LoadedRow, MOST_ROWS, cell_at, cells_of, key_at, row_of, rows_from, value_at, values_from}
+use Rattle.gx_load.specs.Loading.{LoadedRow, MOST_ROWS, at_cell, cell_at, cells_of, key_at, row_of, rows_from, value_at, values_from}
 use Rattle.gx_load.specs.declared.load_stop.CellKind.{CellKind}
 use Rattle.gx_load.specs.declared.load_stop.CellKind.TheVariants as cell_kind
 use Rattle.gx_load.specs.declared.load_stop.LoadStop.{LoadStop}
 use Rattle.gx_load.specs.declared.load_stop.LoadStop.TheVariants as load_stop
+use Rattle.gx_load.specs.declared.load_stop.RowStop.TheVariants as row_stop
 use Rattle.gx_load.proofs.AscendingLemmas.{length-ascending}
 
 -- ---- steps that did not stop
@@ -32,6 +32,9 @@ then_ok : {A B E : Type 0} (step : Result A E) (next : A → Result B E) (y : B)
     → (step >>= next) ≡ Ok y → (x : A) × (step ≡ Ok x) × (next x ≡ Ok y)
 then_ok (Ok x) next y e = (x, refl, e)
 then_ok (Err s) next y e = cc e
+
+same_ok : {A E : Type 0} (x y : A) → ◌≡◌ {A = Result A E} (Ok x) (Ok y) → x ≡ y
+same_ok x y e = cc e
 
 cons_ok : {A E : Type 0} (step : Result A E) (rest : Result (List A) E) (ys : List A)
     → try_cons step rest ≡ Ok ys → (x : A) × (xs : List A) × (step ≡ Ok x) × (rest ≡ Ok xs) × (ys ≡ x ∷ xs)
@@ -94,8 +97,8 @@ cell_fits kind.Ids cell v e = ids v e
 value_fits : (row column : ℕ) (kind : ValueKind) (cell : List ℕ) (v : Value) → value_at row column kind cell ≡ Ok v → Fits kind v
 value_fits row column kind cell v e = go (cell_value kind cell) (cell_fits kind cell v) e
   where
-    go : (r : Result Value CellKind) → (r ≡ Ok v → Fits kind v) → Rattle.gx_load.specs.Loading.at_cell row column r ≡ Ok v → Fits kind v
-    go (Ok x) fits e = let same : Ok {E = CellKind} x ≡ Ok v = cc in fits same
+    go : (r : Result Value CellKind) → (r ≡ Ok v → Fits kind v) → at_cell row column r ≡ Ok v → Fits kind v
+    go (Ok x) fits e = let same : x ≡ v = cc in fits (ap Ok same)
     go (Err s) fits e = cc e
 
 -- ---- rows
@@ -119,9 +122,9 @@ row_fits keys kinds width positions row fields loaded e = go (length fields == w
         let first = then_ok (key_at row 0 (cell_at 0 positions fields)) _ loaded e in
         let second = then_ok (cond (keys == 1) (Ok (pos 0)) (key_at row 1 (cell_at 1 positions fields))) _ loaded first.2 in
         let values = then_ok (values_from row keys kinds positions fields) _ loaded second.2 in
-        let same : values.0 ≡ loaded.2 = ap (λ (r : Result LoadedRow LoadStop). Rattle.std.proofs.Common.unwrap_or (Rattle.std.specs.Result.result_ok (Rattle.std.specs.Result.result_ok {E = LoadStop} r)) loaded) values.2 in
+        let same : values.0 ≡ loaded.2 = ap (λ (r : LoadedRow). r.2) (same_ok {E = LoadStop} _ loaded values.2) in
         subst (λ (vs : List Value). (map kind_of vs ≡ kinds) × IsBoundedRow vs) same (values_fit row keys kinds positions fields values.0 values.1)
-    go : (b : Bool) → cond b (cells_of keys kinds positions row fields) (Err (load_stop.Data (Rattle.gx_load.specs.declared.load_stop.RowStop.TheVariants.Shape row))) ≡ Ok loaded
+    go : (b : Bool) → cond b (cells_of keys kinds positions row fields) (Err (load_stop.Data (row_stop.Shape row))) ≡ Ok loaded
         → (map kind_of loaded.2 ≡ kinds) × IsBoundedRow loaded.2
     go true e = cells e
     go false e = cc e
@@ -134,38 +137,40 @@ module _ {A : Type 0} (row_of_item : ℕ → A → Result LoadedRow LoadStop) wh
       → (row : ℕ) (items : List A) (rows : List LoadedRow) → rows_from row_of_item row items ≡ Ok rows → All P rows
   unfolding rows_from
   rows_from-all P each row [] rows e = let none : rows ≡ [] = cc in rw none (All-nil P)
-  rows_from-all P each row (item ∷ items) rows e = go (nat_lt MOST_ROWS row) e
+  rows_from-all P each row (item ∷ items) rows e = go (nat_lt MOST_ROWS row) e (rows_from-all P each (row + 1) items)
     where
-      go : (b : Bool) → cond b (Err load_stop.TooManyRows) (try_cons (row_of_item row item) (rows_from row_of_item (row + 1) items)) ≡ Ok rows → All P rows
-      go true e = cc e
-      go false e =
+      go : (b : Bool) → cond b (Err load_stop.TooManyRows) (try_cons (row_of_item row item) (rows_from row_of_item (row + 1) items)) ≡ Ok rows
+          → ((rest : List LoadedRow) → rows_from row_of_item (row + 1) items ≡ Ok rest → All P rest) → All P rows
+      go true e later = cc e
+      go false e later =
           let read = cons_ok (row_of_item row item) (rows_from row_of_item (row + 1) items) rows e in
-          rw read.4 (All-cons P read.0 read.1 (each row item read.0 read.2) (rows_from-all P each (row + 1) items read.1 read.3))
+          rw read.4 (All-cons P read.0 read.1 (each row item read.0 read.2) (later read.1 read.3))
 
   -- the rows from this one on are not more than a file may have
   rows_from-few : (row : ℕ) (items : List A) (rows : List LoadedRow) → row ≤ 500001
       → rows_from row_of_item row items ≡ Ok rows → length rows + row ≤ 500001
   unfolding rows_from
   rows_from-few row [] rows few e = let none : rows ≡ [] = cc in rw none (omega arith)
-  rows_from-few row (item ∷ items) rows few e = go (nat_lt MOST_ROWS row) refl e
+  rows_from-few row (item ∷ items) rows few e = go (nat_lt MOST_ROWS row) refl e (rows_from-few (row + 1) items)
     where
       go : (b : Bool) → nat_lt MOST_ROWS row ≡ b → cond b (Err load_stop.TooManyRows) (try_cons (row_of_item row item) (rows_from row_of_item (row + 1) items)) ≡ Ok rows
+          → ((rest : List LoadedRow) → row + 1 ≤ 500001 → rows_from row_of_item (row + 1) items ≡ Ok rest → length rest + (row + 1) ≤ 500001)
           → length rows + row ≤ 500001
-      go true past e = cc e
-      go false within e =
+      go true past e later = cc e
+      go false within e later =
           let read = cons_ok (row_of_item row item) (rows_from row_of_item (row + 1) items) rows e in
           let most : row ≤ 500000 = grind (arith, nat_tests) in
-          let rest = rows_from-few (row + 1) items read.1 (omega arith) read.3 in
+          let rest = later read.1 (omega arith) read.3 in
           rw read.4 (omega arith)
 
   pub rows_are_few : (items : List A) (rows : List LoadedRow) → rows_from row_of_item 1 items ≡ Ok rows → length rows ≤ MOST_ROWS
   rows_are_few items rows e = let few = rows_from-few 1 items rows (omega arith) e in omega arith
 
-pub rows_fit : (keys : ℕ) (columns : List Column) (width : ℕ) (positions : List ℕ) (records : List (List (List ℕ))) (rows : List LoadedRow)
-    → rows_from (row_of keys (map (λ c. c.1) columns) width positions) 1 records ≡ Ok rows → All (λ r. FitsColumns columns r.2) rows
-rows_fit keys columns width positions records rows e =
-    rows_from-all (row_of keys (map (λ c. c.1) columns) width positions) (λ r. FitsColumns columns r.2)
-    (λ row item loaded read. let fits = row_fits keys (map (λ c. c.1) columns) width positions row item loaded read in record { kinds = fits.0; bounded = fits.1 })
+pub rows_fit : (keys : ℕ) (columns : List Column) (kinds : List ValueKind) (width : ℕ) (positions : List ℕ) (records : List (List (List ℕ))) (rows : List LoadedRow)
+    → kinds ≡ map (λ c. c.1) columns → rows_from (row_of keys kinds width positions) 1 records ≡ Ok rows → All (λ r. FitsColumns columns r.2) rows
+rows_fit keys columns kinds width positions records rows same e =
+    rows_from-all (row_of keys kinds width positions) (λ r. FitsColumns columns r.2)
+    (λ row item loaded read. let fits = row_fits keys kinds width positions row item loaded read in record { kinds = fits.0 ∙ same; bounded = fits.1 })
     1 records rows e
 
 -- each edge of an edge list has the row of the one value 1
@@ -173,8 +178,8 @@ edge_has_one : (oriented : Bool) (line : ℕ × List ℕ) (loaded : LoadedRow) �
 edge_has_one oriented line loaded e = go (ends_in (words_of is_line_space line.1)) e
   where
     between : (ends : ℤ × ℤ) → (edge_between oriented ends).2 ≡ edge_row
-    between ends = elim (oriented Rattle.std.specs.Prelude.◌&&◌ Rattle.std.specs.Prelude.int_lt ends.1 ends.0) as (λ b. (cond b (record { 0 = ends.1 }, record { 0 = ends.0 }, edge_row) (record { 0 = ends.0 }, record { 0 = ends.1 }, edge_row)).2 ≡ edge_row) [ true ↦ refl | false ↦ refl ]
-    go : (o : Option (ℤ × ℤ)) → ok_or (option_map (edge_between oriented) o) (load_stop.Data (Rattle.gx_load.specs.declared.load_stop.RowStop.TheVariants.Line line.0)) ≡ Ok loaded → loaded.2 ≡ edge_row
+    between ends = elim (oriented && int_lt ends.1 ends.0) as (λ b. (cond {A = LoadedRow} b (record { 0 = ends.1 }, record { 0 = ends.0 }, edge_row) (record { 0 = ends.0 }, record { 0 = ends.1 }, edge_row)).2 ≡ edge_row) [ true ↦ refl | false ↦ refl ]
+    go : (o : Option (ℤ × ℤ)) → ok_or (option_map (edge_between oriented) o) (load_stop.Data (row_stop.Line line.0)) ≡ Ok loaded → loaded.2 ≡ edge_row
     go None e = cc e
     go (Some ends) e = let same : edge_between oriented ends ≡ loaded = cc in ap (λ (r : LoadedRow). r.2) (sym same) ∙ between ends
 

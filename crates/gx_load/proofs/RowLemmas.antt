@@ -43,3 +43,30 @@ module _ (row keys : ℕ) (kinds : List ValueKind) (positions : List ℕ) (field
   values_after-stop front i defined stop lt refused so_far =
       sym so_far ∙ ap (try_append front) (values_after-step i lt)
       ∙ try_append-stop front stop (value_of_column i) (values_after (i + 1)) refused
+
+  -- all values of the row
+  abbrev pub values_of_row : Result (List Value) LoadStop
+  values_of_row = values_from row keys kinds positions fields
+
+  from_first : values_of_row ≡ values_after 0
+  from_first = let start : keys ≡ keys + 0 = omega arith in ap (λ (k : ℕ). values_from row k kinds positions fields) start
+
+  -- rows of one value and of two
+  pub values_of_one : (first : Value) → length kinds ≡ 1 → value_of_column 0 ≡ Ok first → values_of_row ≡ Ok (first ∷ [])
+  values_of_one first one read =
+      from_first ∙ values_after-step 0 (omega arith) ∙ rw (read, values_after-done 1 (omega arith)) refl
+
+  pub values_of_two : (first second : Value) → length kinds ≡ 2 → value_of_column 0 ≡ Ok first → value_of_column 1 ≡ Ok second
+      → values_of_row ≡ Ok (first ∷ second ∷ [])
+  values_of_two first second two read more =
+      from_first ∙ values_after-step 0 (omega arith)
+      ∙ rw (read, values_after-step 1 (omega arith), more, values_after-done 2 (omega arith)) refl
+
+  -- the first of them that is refused
+  pub values_stop_first : (stop : LoadStop) → 0 < length kinds → value_of_column 0 ≡ Err stop → values_of_row ≡ Err stop
+  values_stop_first stop some refused = from_first ∙ values_after-step 0 some ∙ rw refused refl
+
+  pub values_stop_second : (first : Value) (stop : LoadStop) → 1 < length kinds → value_of_column 0 ≡ Ok first → value_of_column 1 ≡ Err stop
+      → values_of_row ≡ Err stop
+  values_stop_second first stop some read refused =
+      from_first ∙ values_after-step 0 (omega arith) ∙ rw (read, values_after-step 1 some, refused) refl

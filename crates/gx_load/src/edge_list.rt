@@ -1,6 +1,6 @@
 //! The edges of an edge list, line by line.
 
-ghost use Rattle.std.specs.Prelude.{◌≡◌, ◌<◌, ◌≤◌, ◌^◌, length, vec_len, All, IfOk, option_map};
+ghost use Rattle.std.specs.Prelude.{◌≡◌, ◌<◌, ◌≤◌, ◌^◌, length, All, IfOk, option_map};
 ghost use Rattle.csv.specs.Reading.{strip_bom};
 ghost use Rattle.gx_load.specs.Cells.{words_of};
 ghost use Rattle.gx_load.specs.EdgeLists.{edge_at, edge_between, edge_row, ends_in, is_line_space, rows_of_edge_list};
@@ -17,7 +17,8 @@ use std::alloc::Global;
 // The text after the byte order mark, if it begins with one.
 #[tactic(auto, unfolding(csv::specs::Reading::strip_bom))]
 fn after_bom(text: &[u8]) -> &[u8]
-    ensures { result.now ≡ strip_bom text.now }
+    ensures rest { result.now ≡ strip_bom text.now }
+    ensures shorter { length result.now ≤ length text.now }
 {
     match text {
         [0xef, 0xbb, 0xbf, rest @ ..] => rest,
@@ -75,7 +76,7 @@ pub fn edge_list_of(
     requires short { length bytes.now < 2 ^ 32 }
     ensures rows { Gives (λ v. v.items) result (rows_of_edge_list oriented bytes.now) }
     ensures fits { IfOk result (λ v. All (λ r. r.2 ≡ edge_row) v.items) }
-    ensures few_rows { IfOk result (λ v. vec_len v ≤ MOST_ROWS) }
+    ensures few_rows { IfOk result (λ v. length v.items ≤ MOST_ROWS) }
 {
     let most = LimitKind::FileRows.most() as u32;
     let mut lines = EdgeLines::of(after_bom(bytes));

@@ -1,6 +1,6 @@
 //! The rows of a data file, record by record.
 
-ghost use Rattle.std.specs.Prelude.{◌≡◌, ◌<◌, ◌≤◌, ◌+◌, ◌^◌, ◌⊎◌, length, vec_len, All, IfOk};
+ghost use Rattle.std.specs.Prelude.{◌≡◌, ◌<◌, ◌≤◌, ◌+◌, ◌^◌, ◌⊎◌, length, All, IfOk};
 ghost use Rattle.gx_load.specs.Fitting.{FitsColumns};
 ghost use Rattle.gx_load.specs.LoadResults.{Gives};
 ghost use Rattle.gx_load.specs.Loading.{MOST_ROWS, row_of, rows_from, rows_of_csv};
@@ -57,7 +57,7 @@ pub fn rows_of(
     requires few { keys + length columns.now < 2 ^ 32 }
     ensures rows { Gives (λ v. v.items) result (rows_of_csv keys columns.now bytes.now) }
     ensures fits { IfOk result (λ v. All (λ r. FitsColumns columns.now r.2) v.items) }
-    ensures few_rows { IfOk result (λ v. vec_len v ≤ MOST_ROWS) }
+    ensures few_rows { IfOk result (λ v. length v.items ≤ MOST_ROWS) }
 {
     let mut records = Records::of(alloc, bytes);
     let mut fields = ByteRecord::new(alloc);
