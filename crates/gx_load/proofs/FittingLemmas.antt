@@ -124,6 +124,7 @@ row_fits keys kinds width positions row fields loaded e = go (length fields == w
         let values = then_ok (values_from row keys kinds positions fields) _ loaded second.2 in
         let same : values.0 ≡ loaded.2 = ap (λ (r : LoadedRow). r.2) (same_ok {E = LoadStop} _ loaded values.2) in
         subst (λ (vs : List Value). (map kind_of vs ≡ kinds) × IsBoundedRow vs) same (values_fit row keys kinds positions fields values.0 values.1)
+
     go : (b : Bool) → cond b (cells_of keys kinds positions row fields) (Err (load_stop.Data (row_stop.Shape row))) ≡ Ok loaded
         → (map kind_of loaded.2 ≡ kinds) × IsBoundedRow loaded.2
     go true e = cells e
@@ -179,6 +180,7 @@ edge_has_one oriented line loaded e = go (ends_in (words_of is_line_space line.1
   where
     between : (ends : ℤ × ℤ) → (edge_between oriented ends).2 ≡ edge_row
     between ends = elim (oriented && int_lt ends.1 ends.0) as (λ b. (cond {A = LoadedRow} b (record { 0 = ends.1 }, record { 0 = ends.0 }, edge_row) (record { 0 = ends.0 }, record { 0 = ends.1 }, edge_row)).2 ≡ edge_row) [ true ↦ refl | false ↦ refl ]
+
     go : (o : Option (ℤ × ℤ)) → ok_or (option_map (edge_between oriented) o) (load_stop.Data (row_stop.Line line.0)) ≡ Ok loaded → loaded.2 ≡ edge_row
     go None e = cc e
     go (Some ends) e = let same : edge_between oriented ends ≡ loaded = cc in ap (λ (r : LoadedRow). r.2) (sym same) ∙ between ends

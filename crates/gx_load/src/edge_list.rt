@@ -75,7 +75,7 @@ pub fn edge_list_of(
 ) -> Result<Vec<(Vid, Vid, Row)>, LoadStop>
     requires short { length bytes.now < 2 ^ 32 }
     ensures rows { Gives (λ v. v.items) result (rows_of_edge_list oriented bytes.now) }
-    ensures fits { IfOk result (λ v. All (λ r. r.2 ≡ edge_row) v.items) }
+    ensures each_row_is_one { IfOk result (λ v. All (λ r. r.2 ≡ edge_row) v.items) }
     ensures few_rows { IfOk result (λ v. length v.items ≤ MOST_ROWS) }
 {
     let most = LimitKind::FileRows.most() as u32;
@@ -91,3 +91,6 @@ pub fn edge_list_of(
     }
     Ok(rows)
 }
+
+#[cfg(test)]
+mod tests;

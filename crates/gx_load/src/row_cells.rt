@@ -32,8 +32,11 @@ fn key_at(header: &Header, row: u32, column: u32, fields: &ByteRecord) -> Result
         (fields_of fields.now)) }
 {
     let kind = CellKind::NotInt;
-    int_of(cell_at(header, column, fields))
-        .ok_or(LoadStop::Data(RowStop::Cell { row, column, kind }))
+    int_of(cell_at(header, column, fields)).ok_or(LoadStop::Data(RowStop::Cell {
+        row,
+        column,
+        kind,
+    }))
 }
 
 // The second key of a row, which is 0 if there is one key.

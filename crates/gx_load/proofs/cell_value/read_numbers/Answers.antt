@@ -11,9 +11,9 @@ pub words-preserved : goal.words-preserved
 words-preserved c =
     let fits : FitsSigned w64 c.in-Some-number_of.number = search rules in
     record {
-  so_far = rw (rw (← c.in_ok-map_err.ensures.variant) at c.push.ensures.items, to_z-of_z w64 c.in-Some-number_of.number fits)
-      (numbers_in-more c.words.numbers.items c.in-Some.word.now c.words.words c.take.new.self _ _ c.in-Some.ensures (sym c.in-Some-number_of.ensures) c.words.invariant.so_far);
-}
+      so_far = rw (rw (← c.in_ok-map_err.ensures.variant) at c.push.ensures.items, to_z-of_z w64 c.in-Some-number_of.number fits)
+          (numbers_in-more c.words.numbers.items c.in-Some.word.now c.words.words c.take.new.self _ _ c.in-Some.ensures (sym c.in-Some-number_of.ensures) c.words.invariant.so_far);
+    }
 
 pub returns : goal.returns
 returns c = numbers_in-done c.words.numbers.items c.words.words _ c.in_default.ensures.0 c.words.invariant.so_far

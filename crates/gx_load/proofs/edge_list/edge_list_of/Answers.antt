@@ -32,9 +32,9 @@ pub returns : goal.returns
 returns c =
     let read : ℕ → ℕ × List ℕ → Result LoadedRow LoadStop = λ row line. edge_at c.args.oriented line in
     let all : rows_of_edge_list c.args.oriented c.args.bytes.now ≡ Ok c.rows.rows.items =
-        rows_from-done read c.rows.rows.items c.rows.row c.rows.lines _ c.in_default.ensures.0 c.rows.invariant.so_far in
+    rows_from-done read c.rows.rows.items c.rows.row c.rows.lines _ c.in_default.ensures.0 c.rows.invariant.so_far in
     record {
       rows = all;
-      fits = edges_have_one c.args.oriented (edge_lines_from 1 (strip_bom c.args.bytes.now)) c.rows.rows.items all;
+      each_row_is_one = edges_have_one c.args.oriented (edge_lines_from 1 (strip_bom c.args.bytes.now)) c.rows.rows.items all;
       few_rows = rows_are_few read (edge_lines_from 1 (strip_bom c.args.bytes.now)) c.rows.rows.items all;
     }
