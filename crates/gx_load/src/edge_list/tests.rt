@@ -75,32 +75,3 @@ fn loads_edge_lists(rt: HostRuntime) -> Result<(), Fail> {
     assert_edges(&rt, rt.alloc(), bytes, false, "3 1;1 3;2 2;-1 -2;")?;
     Ok(())
 }
-
-// Why a list of so many edges and then this end is refused; `None` if it is not.
-fn refusal(
-    rt: &impl Abort,
-    alloc: Global,
-    count: usize,
-    end: &[u8],
-) -> Result<Option<LoadStop>, NoMemory> {
-    let mut bytes = Vec::new(alloc);
-    for _ in 0..count {
-        bytes.extend_from_slice(b"1 2\n")?;
-    }
-    bytes.extend_from_slice(end)?;
-    assert!(rt; bytes.len() < 1 << 32);
-    match edge_list_of(alloc, bytes.as_slice(), false) {
-        Ok(_) => Ok(None),
-        Err(stop) => Ok(Some(stop)),
-    }
-}
-
-#[test]
-fn refuses_long_edge_lists(rt: HostRuntime) -> Result<(), Fail> {
-    let line = Some(LoadStop::Data(RowStop::Line(500_000)));
-    assert_eq!(rt; refusal(&rt, rt.alloc(), 499_999, b"x\n")?, line);
-    assert_eq!(rt; refusal(&rt, rt.alloc(), 500_000, b"# x")?, None);
-    let too_many = Some(LoadStop::TooManyRows);
-    assert_eq!(rt; refusal(&rt, rt.alloc(), 500_000, b"x\n")?, too_many);
-    Ok(())
-}
