@@ -11,7 +11,7 @@ use Rattle.std.specs.Result.{result_ok}
 use Rattle.std.specs.Str.{IsAscii, all_ascii_digits}
 use Rattle.std.specs.Str.Parse.{AllDigits, IsNumeral, ParsesSigned, digits_value, signed_digits_value, without_leading_sign}
 use Rattle.csv.specs.Records.{field_at}
-use Rattle.gx_load.specs.Cells.{trim, fits_64_bits, int_of, is_numeral, number_of}
+use Rattle.gx_load.specs.Cells.{fits_64_bits, is_numeral, number_of}
 
 -- the test of the definition and that of `parse`
 digits : IsNumeralModel (λ ds. all_ascii_digits ds ≡ true) (digits_value 10)
@@ -79,9 +79,9 @@ IsUtf8-numeral (c ∷ cs) h = IsUtf8-from_ascii (c ∷ cs) (sign_then_digits c c
 pub number_of-not_utf8 : (text : List ℕ) → ¬ (IsUtf8 text) → number_of text ≡ None
 number_of-not_utf8 text h = no_number text (λ n. h (IsUtf8-numeral text n.0))
 
--- a position without a field has no number
-pub int_of-no_field : (fields : List (List ℕ)) (position : ℕ) → field_at fields position ≡ None → int_of (get_or fields position []) ≡ None
-unfolding int_of number_of trim field_at
-int_of-no_field [] position e = refl
-int_of-no_field (f ∷ fs) zero e = cc e
-int_of-no_field (f ∷ fs) (suc i) e = int_of-no_field fs i e
+-- a position without a field has the empty cell
+pub cell-no_field : (fields : List (List ℕ)) (position : ℕ) → field_at fields position ≡ None → get_or fields position [] ≡ []
+unfolding field_at
+cell-no_field [] position e = refl
+cell-no_field (f ∷ fs) zero e = cc e
+cell-no_field (f ∷ fs) (suc i) e = cell-no_field fs i e

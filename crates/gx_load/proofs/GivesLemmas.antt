@@ -1,6 +1,6 @@
 -- Results that are stops.
 use Rattle.std.proofs.Common.{◌≡◌, Result, Ok, Err}
-use Rattle.std.specs.Result.{IsErrAnd}
+use Rattle.std.specs.Result.{IfOk, IsErrAnd}
 use Rattle.gx_load.specs.LoadResults.{Gives}
 use Rattle.gx_load.specs.declared.load_stop.LoadStop.{LoadStop}
 use Rattle.gx_load.specs.declared.load_stop.LoadStop.TheVariants as load_stop
@@ -29,3 +29,9 @@ pub Gives-carried : {A B C D : Type 0} (inner : A → B) (outer : C → D) (resu
     → IsErrAnd result (λ e. e ≡ stop) → Gives inner (Err stop) part → (part ≡ Err stop → whole ≡ Err stop) → Gives outer result whole
 Gives-carried inner outer (Ok x) stop part whole h given up = absurd h
 Gives-carried inner outer (Err d) stop part whole h given up = rw h (Gives-passed inner outer stop part whole given up)
+
+-- what holds of the defined result holds of the result
+pub Gives-if_ok : {A B : Type 0} (view : A → B) (result : Result A LoadStop) (defined : Result B LoadStop) (P : B → Type 0)
+    → Gives view result defined → ((x : B) → defined ≡ Ok x → P x) → IfOk result (λ a. P (view a))
+Gives-if_ok view (Ok x) defined P given holds = holds (view x) given
+Gives-if_ok view (Err stop) defined P given holds = tt

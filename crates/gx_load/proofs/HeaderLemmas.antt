@@ -1,5 +1,5 @@
 -- The search for a name in a header, field by field.
-use Rattle.std.proofs.Common.{◌≡◌, ◌+◌, ◌++◌, ◌⊎◌, inl, inr, length-append, ◌≤◌, slice_get, Ok, [], ◌∷◌, ℕ, List, Option, None, Some, true, false, length, map, drop, refl, zero, suc, add-one}
+use Rattle.std.proofs.Common.{take, ap, option_map, ◌≡◌, ◌+◌, ◌++◌, ◌⊎◌, inl, inr, length-append, ◌≤◌, slice_get, Ok, [], ◌∷◌, ℕ, List, Option, None, Some, true, false, length, map, drop, refl, zero, suc, add-one}
 use Rattle.std.proofs.lemmas.List.{drop_all, length-map}
 use Rattle.std.proofs.Math.Seq.{drop-nil}
 use Rattle.std.specs.List.{position_from}
@@ -7,6 +7,7 @@ use Rattle.std.specs.Str.{bytes_eq}
 use Rattle.csv.specs.Records.{field_at}
 use Rattle.gx_rows.specs.Columns.{Column, names_of}
 use Rattle.gx_rows.specs.Results.{try_cons}
+use Rattle.gx_rows.specs.declared.value.ValueKind.{ValueKind}
 use Rattle.gx_load.specs.Cells.{trim}
 use Rattle.gx_load.specs.Loading.{key_names, column_position, positions_from}
 
@@ -69,3 +70,14 @@ positions_from-done column names header past = rw (drop_all column names past) r
 pub length-column_names : (keys : ℕ) (columns : List Column) → (keys ≡ 1) ⊎ (keys ≡ 2) → length (key_names keys ++ names_of columns) ≡ keys + length columns
 length-column_names keys columns (inl one) = rw (one, length-append, length-map) refl
 length-column_names keys columns (inr two) = rw (two, length-append, length-map) refl
+
+-- the kinds of the columns before one more
+kinds-suc : (columns : List Column) (i : ℕ) (kind : ValueKind) → option_map (λ c. c.1) (slice_get columns i) ≡ Some kind
+    → map (λ (c : Column). c.1) (take (suc i) columns) ≡ map (λ (c : Column). c.1) (take i columns) ++ kind ∷ []
+kinds-suc [] i kind e = cc e
+kinds-suc (c ∷ cs) zero kind e = let same : c.1 ≡ kind = cc in ap (λ (k : ValueKind). k ∷ []) same
+kinds-suc (c ∷ cs) (suc i) kind e = ap (λ (ks : List ValueKind). c.1 ∷ ks) (kinds-suc cs i kind e)
+
+pub kinds-more : (columns : List Column) (i : ℕ) (kind : ValueKind) → option_map (λ c. c.1) (slice_get columns i) ≡ Some kind
+    → map (λ (c : Column). c.1) (take (i + 1) columns) ≡ map (λ (c : Column). c.1) (take i columns) ++ kind ∷ []
+kinds-more columns i kind e = rw (add-one i) (kinds-suc columns i kind e)

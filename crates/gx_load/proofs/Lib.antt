@@ -1,7 +1,11 @@
+pub mod AscendingLemmas
 pub mod CellLemmas
+pub mod CellValueLemmas
 pub mod FileLemmas
+pub mod FittingLemmas
 pub mod GivesLemmas
 pub mod HeaderLemmas
 pub mod Machine
 pub mod NextRecord
+pub mod PieceLemmas
 pub mod RowLemmas

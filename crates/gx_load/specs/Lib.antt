@@ -1,5 +1,10 @@
+pub mod Ascending
+pub mod CellValues
 pub mod Cells
+pub mod EdgeLists
 pub mod FileBytes
+pub mod Fitting
 pub mod LoadResults
 pub mod Loading
 pub mod Remaining
+pub mod Separators

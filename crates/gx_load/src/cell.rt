@@ -1,7 +1,8 @@
-//! Cells of a data file: which bytes of a cell count, and the whole number that they spell.
+//! Cells of a data file: which bytes of a cell count, and the whole number or the truth value that
+//! they spell.
 
 ghost use Rattle.std.specs.Prelude.{◌≡◌};
-ghost use Rattle.gx_load.specs.Cells.{trim, trim_end, trim_start, int_of, number_of};
+ghost use Rattle.gx_load.specs.Cells.{trim, trim_end, trim_start, bool_of, int_of, number_of};
 
 use std::str;
 
@@ -37,18 +38,41 @@ pub(crate) fn trim(text: &[u8]) -> &[u8]
 
 // The whole number that a text spells, if it spells one.
 #[tactic(auto, using(crate::proofs::CellLemmas::parsing))]
-fn number_of(text: &str) -> Option<i64>
+fn parse_number(text: &str) -> Option<i64>
     ensures { result ≡ number_of text.now }
 {
     text.parse::<i64>().ok()
 }
 
+/// The whole number that these bytes spell, if they spell one.
+pub(crate) fn number_of(text: &[u8]) -> Option<i64>
+    ensures { result ≡ number_of text.now }
+{
+    match str::from_utf8(text) {
+        Ok(text) => parse_number(text),
+        Err(_) => None,
+    }
+}
+
 /// The whole number in a cell, if there is one.
+#[tactic(auto, unfolding(crate::specs::Cells::int_of))]
 pub(crate) fn int_of(cell: &[u8]) -> Option<i64>
     ensures { result ≡ int_of cell.now }
 {
-    match str::from_utf8(trim(cell)) {
-        Ok(text) => number_of(text),
-        Err(_) => None,
+    number_of(trim(cell))
+}
+
+/// The truth value in a cell, if there is one.
+#[tactic(auto, unfolding(crate::specs::Cells::bool_of))]
+pub(crate) fn bool_of(cell: &[u8]) -> Option<bool>
+    ensures { result ≡ bool_of cell.now }
+{
+    let word = trim(cell);
+    if word == b"true".as_slice() {
+        Some(true)
+    } else if word == b"false".as_slice() {
+        Some(false)
+    } else {
+        None
     }
 }

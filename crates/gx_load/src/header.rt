@@ -1,5 +1,5 @@
-//! The header of a data file: at which positions its columns are, and how the key columns are
-//! named.
+//! The header of a data file: at which positions its columns are, of which kinds they are, and how
+//! the key columns are named.
 
 ghost use Rattle.std.specs.Prelude.{◌≡◌, ◌<◌, ◌≤◌, ◌+◌, ◌^◌, ◌⊎◌, ◌++◌, length, map, slice_get, vec_len, IfOk, Some};
 ghost use Rattle.csv.specs.Records.{fields_of};
@@ -11,7 +11,7 @@ ghost use Rattle.gx_load.specs.Loading.{key_names, column_position, positions_fr
 use crate::cell::trim;
 use crate::{LoadStop, RowStop};
 use csv::ByteRecord;
-use gx_rows::{NoMemory, RowType};
+use gx_rows::{NoMemory, RowType, ValueKind};
 use std::alloc::Global;
 
 // The first position of this name in the header; spaces and tabs around header fields do not count.
@@ -84,15 +84,29 @@ fn positions_of(
     Ok(positions)
 }
 
-/// The positions of the key columns and of the declared columns in a file, and how many fields its
-/// header has.
+// The kinds of the columns.
+fn kinds_of(alloc: Global, columns: &RowType) -> Result<Vec<ValueKind>, NoMemory>
+    ensures { IfOk result (λ kinds. kinds.items ≡ map (λ c. c.1) columns.now) }
+{
+    let count = columns.len();
+    let mut kinds = Vec::with_capacity(alloc, count as usize)?;
+    for i in 0..count {
+        kinds.push(columns.kind(i))?;
+    }
+    Ok(kinds)
+}
+
+/// The positions of the key columns and of the declared columns in a file, the kinds of the declared
+/// columns, and how many fields the file's header has.
 #[derive(Drop)]
 pub(crate) struct Header {
     pub(crate) keys: u32,
+    pub(crate) kinds: Vec<ValueKind>,
     pub(crate) width: usize,
     pub(crate) positions: Vec<usize>,
     ghost has_key: { 1 ≤ keys },
-    ghost has_positions: { keys ≤ vec_len positions },
+    ghost has_no_third_key: { keys ≤ 2 },
+    ghost has_positions: { vec_len positions ≡ keys + vec_len kinds },
     ghost few: { vec_len positions < 2 ^ 32 },
 }
 
@@ -113,11 +127,13 @@ impl Header {
         ensures positions { Gives (λ h. h.positions.items) result
             (positions_from 0 (key_names keys ++ names_of columns.now) (fields_of fields.now)) }
         ensures keys_kept { IfOk result (λ h. h.keys ≡ keys) }
+        ensures kinds_kept { IfOk result (λ h. h.kinds.items ≡ map (λ c. c.1) columns.now) }
         ensures width_is_field_count { IfOk result (λ h. h.width ≡ length (fields_of fields.now)) }
     {
         let positions = positions_of(alloc, keys, columns, fields)?;
         Ok(Header {
             keys,
+            kinds: kinds_of(alloc, columns)?,
             width: fields.len(),
             positions,
         })

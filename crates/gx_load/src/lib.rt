@@ -1,23 +1,31 @@
 //! Files to rows.
 //!
 //! `read_all` reads a whole file from a source of files, up to a limit. `rows_of` turns the bytes
-//! of a CSV file into rows of a row type, or returns the first position that it refuses. Which
-//! records a text has is defined by the crate `csv`; what a header and a cell must be is defined in
-//! `specs/`. Contracts speak of bytes and of lists of rows. The crate depends on `gx_rows`,
-//! `gx_outside`, `csv` and `thiserror`, and the top call loads through it. It never sees a script,
-//! nor which of several rows of one identifier counts.
+//! of a CSV file into rows of a row type, and `edge_list_of` those of an edge list into edges, or
+//! each returns the first position that it refuses. `Loads` keeps the rows of each load statement.
+//! Which records a text has is defined by the crate `csv`; what a header, a cell and a line must be
+//! is defined in `specs/`. Contracts speak of bytes and of lists of rows. The crate depends on
+//! `gx_rows`, `gx_outside`, `csv` and `thiserror`, and the top call loads through it. It never sees
+//! a script, nor which of several rows of one identifier counts.
 #![tactic(auto)]
 
 mod cell;
+mod cell_value;
+mod edge_lines;
+mod edge_list;
 mod header;
 mod load_stop;
 mod loading;
+mod loads;
 mod read_stop;
 mod reading;
 mod records;
 mod row_cells;
+mod words;
 
+pub use edge_list::edge_list_of;
 pub use load_stop::{CellKind, LoadStop, RowStop};
 pub use loading::rows_of;
+pub use loads::Loads;
 pub use read_stop::ReadStop;
 pub use reading::read_all;

@@ -1,9 +1,9 @@
 //! The rows of a data file, record by record.
 
-ghost use Rattle.std.specs.Prelude.{◌≡◌, ◌<◌, ◌+◌, ◌^◌, ◌⊎◌, length, All, IfOk};
-ghost use Rattle.gx_rows.specs.declared.value.ValueKind.TheVariants as ValueKind;
+ghost use Rattle.std.specs.Prelude.{◌≡◌, ◌<◌, ◌≤◌, ◌+◌, ◌^◌, ◌⊎◌, length, All, IfOk};
+ghost use Rattle.gx_load.specs.Fitting.{FitsColumns};
 ghost use Rattle.gx_load.specs.LoadResults.{Gives};
-ghost use Rattle.gx_load.specs.Loading.{rows_from, rows_of_csv};
+ghost use Rattle.gx_load.specs.Loading.{MOST_ROWS, row_of, rows_from, rows_of_csv};
 
 use crate::header::Header;
 use crate::records::Records;
@@ -20,17 +20,18 @@ fn rows_from(
     records: &mut Records,
     fields: &mut ByteRecord,
 ) -> Result<Vec<(Vid, Vid, Row)>, LoadStop>
-    ensures { Gives (λ v. v.items) result (rows_from header.now.keys header.now.width
-        header.now.positions.items 1 records.old) }
+    ensures { Gives (λ v. v.items) result (rows_from (row_of header.now.keys
+        header.now.kinds.items header.now.width header.now.positions.items) 1 records.old) }
 {
     let most = LimitKind::FileRows.most() as u32;
+    let mut numbers = Vec::new(alloc);
     let mut rows = Vec::new(alloc);
     let mut row = 1;
     'rows: while records.take(fields)? {
         if row > most {
             return Err(LoadStop::TooManyRows);
         }
-        rows.push(row_of(alloc, header, row, fields)?)
+        rows.push(row_of(alloc, header, row, fields, &mut numbers)?)
             .map_err(|_| NoMemory)?;
         row += 1;
     }
@@ -38,7 +39,8 @@ fn rows_from(
 }
 
 /// The rows of a CSV file under these columns, with `keys` key columns before them: 1 for vertices
-/// (`id`, and 0 for the second key), 2 for edges (`src` and `dst`).
+/// (`id`, and 0 for the second key), 2 for edges (`src` and `dst`). Each row has one value for each
+/// column, of the column's kind.
 ///
 /// # Errors
 ///
@@ -53,8 +55,9 @@ pub fn rows_of(
     requires short { length bytes.now < 2 ^ 32 }
     requires keyed { (keys ≡ 1) ⊎ (keys ≡ 2) }
     requires few { keys + length columns.now < 2 ^ 32 }
-    requires ints { All (λ c. c.1 ≡ ValueKind.Int) columns.now }
-    ensures { Gives (λ v. v.items) result (rows_of_csv keys columns.now bytes.now) }
+    ensures rows { Gives (λ v. v.items) result (rows_of_csv keys columns.now bytes.now) }
+    ensures fits { IfOk result (λ v. All (λ r. FitsColumns columns.now r.2) v.items) }
+    ensures few_rows { IfOk result (λ v. length v.items ≤ MOST_ROWS) }
 {
     let mut records = Records::of(alloc, bytes);
     let mut fields = ByteRecord::new(alloc);

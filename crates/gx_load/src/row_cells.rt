@@ -1,50 +1,76 @@
 //! A record to a row. Each cell is read from the record itself, at its column's position, so that
-//! no list of cells is made in between.
+//! no list of cells is made in between; rows of one or two values take no memory of their own.
 
-ghost use Rattle.std.specs.Prelude.{◌≡◌, ◌==◌, ◌<◌, ◌^◌, [], drop, vec_len, slice_index_or, if◌then◌else◌, pos, Ok, IfOk};
+ghost use Rattle.std.specs.Prelude.{◌≡◌, ◌==◌, ◌<◌, ◌+◌, ◌^◌, vec_len, slice_index_or, if◌then◌else◌, pos, Ok, IfOk};
 ghost use Rattle.csv.specs.Records.{fields_of};
 ghost use Rattle.gx_load.specs.LoadResults.{Gives};
-ghost use Rattle.gx_load.specs.Cells.{int_of};
-ghost use Rattle.gx_load.specs.Loading.{cells_of, int_at, row_of, value_at, values_from};
+ghost use Rattle.gx_load.specs.Loading.{cell_at, cells_of, key_at, row_of, value_at, values_from};
 
 use crate::cell::int_of;
+use crate::cell_value::{CellStop, cell_value};
 use crate::header::Header;
 use crate::{CellKind, LoadStop, RowStop};
 use csv::ByteRecord;
-use gx_rows::{NoMemory, Row, Value, Vid};
+use gx_rows::{NoMemory, Row, Value, ValueKind, Vid};
 use std::alloc::Global;
 
-// The whole number in the field at a position, if there is one.
-fn number_at(position: usize, fields: &ByteRecord) -> Option<i64>
-    ensures { result ≡ int_of (slice_index_or (fields_of fields.now) position []) }
+// The bytes in the cell of a column.
+fn cell_at<'a>(header: &Header, column: u32, fields: &'a ByteRecord) -> &'a [u8]
+    requires { column < vec_len header.now.positions }
+    ensures { result.now ≡ cell_at column header.now.positions.items (fields_of fields.now) }
 {
-    int_of(fields.get(position)?)
+    match fields.get(header.positions[column as usize]) {
+        Some(cell) => cell,
+        None => b"",
+    }
 }
 
-// The whole number in a cell, which must be one.
-fn int_at(row: u32, column: u32, position: usize, fields: &ByteRecord) -> Result<i64, LoadStop>
-    ensures { result ≡ int_at row column position (fields_of fields.now) }
+// The key in a column, which must be a whole number.
+fn key_at(header: &Header, row: u32, column: u32, fields: &ByteRecord) -> Result<i64, LoadStop>
+    requires { column < vec_len header.now.positions }
+    ensures { result ≡ key_at row column (cell_at column header.now.positions.items
+        (fields_of fields.now)) }
 {
     let kind = CellKind::NotInt;
-    number_at(position, fields).ok_or(LoadStop::Data(RowStop::Cell { row, column, kind }))
-}
-
-// The value in a cell.
-fn value_at(row: u32, column: u32, position: usize, fields: &ByteRecord) -> Result<Value, LoadStop>
-    ensures { result ≡ value_at row column position (fields_of fields.now) }
-{
-    Ok(Value::Int(int_at(row, column, position, fields)?))
+    int_of(cell_at(header, column, fields)).ok_or(LoadStop::Data(RowStop::Cell {
+        row,
+        column,
+        kind,
+    }))
 }
 
 // The second key of a row, which is 0 if there is one key.
 fn second_key(header: &Header, row: u32, fields: &ByteRecord) -> Result<i64, LoadStop>
-    ensures { result ≡ (if header.now.keys == 1 then Ok (pos 0) else int_at row 1
-        (slice_index_or header.now.positions.items 1 0) (fields_of fields.now)) }
+    ensures { result ≡ (if header.now.keys == 1 then Ok (pos 0) else key_at row 1
+        (cell_at 1 header.now.positions.items (fields_of fields.now))) }
 {
     if header.keys == 1 {
         Ok(0)
     } else {
-        int_at(row, 1, header.positions[1], fields)
+        key_at(header, row, 1, fields)
+    }
+}
+
+// The value of the declared column at index `i`.
+fn value_at(
+    alloc: Global,
+    header: &Header,
+    row: u32,
+    i: u32,
+    fields: &ByteRecord,
+    numbers: &mut Vec<i64>,
+) -> Result<Value, LoadStop>
+    requires { i < vec_len header.now.kinds }
+    ensures { Gives (λ value. value) result (value_at row (header.now.keys + i)
+        (slice_index_or header.now.kinds.items i ValueKind.Int)
+        (cell_at (header.now.keys + i) header.now.positions.items (fields_of fields.now))) }
+{
+    let column = header.keys + i;
+    let cell = cell_at(header, column, fields);
+    match cell_value(alloc, header.kinds[i as usize], cell, numbers) {
+        Ok(value) => Ok(value),
+        Err(CellStop::Refused(kind)) => Err(LoadStop::Data(RowStop::Cell { row, column, kind })),
+        Err(CellStop::NoMemory) => Err(LoadStop::NoMemory),
     }
 }
 
@@ -54,20 +80,41 @@ fn values_of(
     header: &Header,
     row: u32,
     fields: &ByteRecord,
+    numbers: &mut Vec<i64>,
 ) -> Result<Vec<Value>, LoadStop>
-    ensures values { Gives (λ v. v.items) result
-        (values_from row header.now.keys (drop header.now.keys header.now.positions.items)
-        (fields_of fields.now)) }
+    ensures values { Gives (λ v. v.items) result (values_from row header.now.keys
+        header.now.kinds.items header.now.positions.items (fields_of fields.now)) }
     ensures few { IfOk result (λ v. vec_len v < 2 ^ 32) }
 {
-    let count = header.positions.len() as u32;
-    let most = (count - header.keys) as usize;
-    let mut values = Vec::with_capacity(alloc, most).map_err(|_| NoMemory)?;
-    for column in header.keys..count {
-        let value = value_at(row, column, header.positions[column as usize], fields)?;
+    let count = header.kinds.len() as u32;
+    let mut values = Vec::with_capacity(alloc, count as usize).map_err(|_| NoMemory)?;
+    for i in 0..count {
+        let value = value_at(alloc, header, row, i, fields, numbers)?;
         values.push(value).map_err(|_| NoMemory)?;
     }
     Ok(values)
+}
+
+// The row of the values, in the order of its columns.
+fn row_of_values(
+    alloc: Global,
+    header: &Header,
+    row: u32,
+    fields: &ByteRecord,
+    numbers: &mut Vec<i64>,
+) -> Result<Row, LoadStop>
+    ensures { Gives (λ r. r) result (values_from row header.now.keys
+        header.now.kinds.items header.now.positions.items (fields_of fields.now)) }
+{
+    match header.kinds.len() {
+        1 => Ok(Row::one(value_at(alloc, header, row, 0, fields, numbers)?)),
+        2 => {
+            let first = value_at(alloc, header, row, 0, fields, numbers)?;
+            let second = value_at(alloc, header, row, 1, fields, numbers)?;
+            Ok(Row::two(first, second))
+        }
+        _ => Ok(Row::of(values_of(alloc, header, row, fields, numbers)?)),
+    }
 }
 
 // The keys and the values of a row.
@@ -76,17 +123,19 @@ fn cells_of(
     header: &Header,
     row: u32,
     fields: &ByteRecord,
+    numbers: &mut Vec<i64>,
 ) -> Result<(Vid, Vid, Row), LoadStop>
-    ensures { Gives (λ r. r) result (cells_of header.now.keys header.now.positions.items row
-        (fields_of fields.now)) }
+    ensures { Gives (λ r. r) result (cells_of header.now.keys header.now.kinds.items
+        header.now.positions.items row (fields_of fields.now)) }
 {
-    let first = int_at(row, 0, header.positions[0], fields)?;
+    let first = key_at(header, row, 0, fields)?;
     let second = second_key(header, row, fields)?;
-    let values = values_of(alloc, header, row, fields)?;
-    Ok((Vid(first), Vid(second), Row::of(values)))
+    let values = row_of_values(alloc, header, row, fields, numbers)?;
+    Ok((Vid(first), Vid(second), values))
 }
 
-/// The row of this number, whose record must have as many fields as the header.
+/// The row of this number, whose record must have as many fields as the header. The numbers of lists
+/// are read into `numbers`.
 ///
 /// # Errors
 ///
@@ -96,12 +145,13 @@ pub(crate) fn row_of(
     header: &Header,
     row: u32,
     fields: &ByteRecord,
+    numbers: &mut Vec<i64>,
 ) -> Result<(Vid, Vid, Row), LoadStop>
-    ensures { Gives (λ r. r) result (row_of header.now.keys header.now.width
-        header.now.positions.items row (fields_of fields.now)) }
+    ensures { Gives (λ r. r) result (row_of header.now.keys header.now.kinds.items
+        header.now.width header.now.positions.items row (fields_of fields.now)) }
 {
     if fields.len() == header.width {
-        cells_of(alloc, header, row, fields)
+        cells_of(alloc, header, row, fields, numbers)
     } else {
         Err(LoadStop::Data(RowStop::Shape(row)))
     }

@@ -1,36 +1,34 @@
 //! What loading returns, over tables of texts.
 
-ghost use Rattle.std.specs.Prelude.{◌≡◌, ◌⊎◌, ◌∷◌, ◌++◌, [], length, All, IfOk, OnOk};
-ghost use Rattle.gx_rows.specs.declared.value.ValueKind.TheVariants as ValueKind;
+ghost use Rattle.std.specs.Prelude.{◌≡◌, ◌⊎◌, length, IfOk};
+ghost use Rattle.std.specs.List.{IsDistinct};
 
 use super::*;
-use gx_rows::{Text, Value, ValueKind};
+use crate::CellKind;
+use gx_rows::{MOST_TEXT_BYTES, Text, Value, ValueKind};
 use std::process::Abort;
 use std::test::Fail;
 
-// Adds the int column of this name.
-fn add_column(
-    alloc: Global,
-    columns: &mut Vec<(Text, ValueKind)>,
-    name: &str,
-) -> Result<(), NoMemory>
-    ensures { OnOk result (columns.new.items ≡ columns.old.items ++ (name.now, ValueKind.Int) ∷
-        []) }
-{
-    let name = Text::of(alloc, name)?;
-    columns.push((name, ValueKind::Int))?;
-    Ok(())
-}
-
-// The int columns `a` and `b`.
-fn columns(alloc: Global) -> Result<RowType, NoMemory>
-    ensures few { IfOk result (λ t. length t ≡ 2) }
-    ensures ints { IfOk result (λ t. All (λ c. c.1 ≡ ValueKind.Int) t) }
+// The columns `a` and `b` of these kinds.
+fn columns(alloc: Global, first: ValueKind, second: ValueKind) -> Result<RowType, NoMemory>
+    ensures { IfOk result (λ t. length t ≡ 2) }
 {
     let mut columns = Vec::new(alloc);
-    add_column(alloc, &mut columns, "a")?;
-    add_column(alloc, &mut columns, "b")?;
+    columns.push((Text::of(alloc, "a")?, first))?;
+    columns.push((Text::of(alloc, "b")?, second))?;
     Ok(RowType::of(columns))
+}
+
+// Appends a value, as text.
+fn put_value(alloc: Global, text: &mut String, value: &Value) -> Result<(), NoMemory> {
+    let more = match value {
+        Value::Int(number) => format!(in alloc; " {number}")?,
+        Value::Bool(truth) => format!(in alloc; " {truth}")?,
+        Value::Text(chars) => format!(in alloc; " '{}'", chars.as_str())?,
+        Value::Ids(ids) => format!(in alloc; " {:?}", ids.as_slice())?,
+    };
+    text.push_str(&more)?;
+    Ok(())
 }
 
 // Appends the keys and the values of a row, as text.
@@ -38,21 +36,24 @@ fn put_row(alloc: Global, text: &mut String, row: &(Vid, Vid, Row)) -> Result<()
     let keys = format!(in alloc; "{} {}", row.0.0, row.1.0)?;
     text.push_str(&keys)?;
     for value in row.2.as_slice() {
-        if let Value::Int(number) = value {
-            let more = format!(in alloc; " {number}")?;
-            text.push_str(&more)?;
-        }
+        put_value(alloc, text, value)?;
     }
     text.push_str(";")?;
     Ok(())
 }
 
-// What loading returns, as text.
-fn loaded_text(rt: &impl Abort, alloc: Global, bytes: &[u8], keys: u32) -> Result<String, NoMemory>
+// What loading these bytes with columns of these kinds returns, as text.
+fn loaded_text(
+    rt: &impl Abort,
+    alloc: Global,
+    bytes: &[u8],
+    keys: u32,
+    kinds: (ValueKind, ValueKind),
+) -> Result<String, NoMemory>
     requires { (keys ≡ 1) ⊎ (keys ≡ 2) }
 {
     assert!(rt; bytes.len() < 1 << 32);
-    let columns = columns(alloc)?;
+    let columns = columns(alloc, kinds.0, kinds.1)?;
     let rows = match rows_of(alloc, bytes, keys, &columns) {
         Ok(rows) => rows,
         Err(stop) => return Ok(format!(in alloc; "{stop:?}")?),
@@ -64,7 +65,7 @@ fn loaded_text(rt: &impl Abort, alloc: Global, bytes: &[u8], keys: u32) -> Resul
     Ok(text)
 }
 
-// Stops the test unless loading these bytes returns what is expected.
+// Stops the test unless loading these bytes with two int columns returns what is expected.
 fn assert_loads(
     rt: &impl Abort,
     alloc: Global,
@@ -74,7 +75,7 @@ fn assert_loads(
 ) -> Result<(), NoMemory>
     requires { (keys ≡ 1) ⊎ (keys ≡ 2) }
 {
-    let text = loaded_text(rt, alloc, bytes, keys)?;
+    let text = loaded_text(rt, alloc, bytes, keys, (ValueKind::Int, ValueKind::Int))?;
     assert_eq!(rt; text.as_str(), expected, "at {bytes:?}");
     Ok(())
 }
@@ -85,6 +86,20 @@ fn file_with_cell(alloc: Global, cell: &[u8]) -> Result<Vec<u8>, NoMemory> {
     bytes.extend_from_slice(cell)?;
     bytes.extend_from_slice(b"\",3\n")?;
     Ok(bytes)
+}
+
+// Stops the test unless this cell of this kind is loaded, or refused, as expected.
+fn assert_cell(
+    rt: &impl Abort,
+    alloc: Global,
+    kind: ValueKind,
+    cell: &[u8],
+    expected: &str,
+) -> Result<(), NoMemory> {
+    let bytes = file_with_cell(alloc, cell)?;
+    let text = loaded_text(rt, alloc, bytes.as_slice(), 1, (kind, ValueKind::Int))?;
+    assert_eq!(rt; text.as_str(), expected, "at {cell:?}");
+    Ok(())
 }
 
 #[test]
@@ -187,6 +202,120 @@ fn refuses_cells_that_are_not_numbers(rt: HostRuntime) -> Result<(), Fail> {
     for cell in not_numbers {
         let bytes = file_with_cell(rt.alloc(), cell)?;
         assert_loads(&rt, rt.alloc(), 1, bytes.as_slice(), expected)?;
+    }
+    Ok(())
+}
+
+#[test]
+fn loads_truth_values(rt: HostRuntime) -> Result<(), Fail> {
+    let refused = "Data(Cell { row: 1, column: 1, kind: NotBool })";
+    let cells = [
+        ("true", "1 0 true 3;"),
+        (" \tfalse\t ", "1 0 false 3;"),
+        ("True", refused),
+        ("", refused),
+        ("1", refused),
+        ("true false", refused),
+        ("true\r", refused),
+    ];
+    for (cell, expected) in cells {
+        assert_cell(&rt, rt.alloc(), ValueKind::Bool, cell.as_bytes(), expected)?;
+    }
+    Ok(())
+}
+
+#[test]
+fn loads_texts(rt: HostRuntime) -> Result<(), Fail> {
+    let cells = [
+        ("", "1 0 '' 3;"),
+        (" \ta\t ", "1 0 ' \ta\t ' 3;"),
+        ("x,\r\n\"\"y\"\"", "1 0 'x,\r\n\"y\"' 3;"),
+        ("\u{feff}é", "1 0 '\u{feff}é' 3;"),
+    ];
+    for (cell, expected) in cells {
+        assert_cell(&rt, rt.alloc(), ValueKind::Text, cell.as_bytes(), expected)?;
+    }
+    let refused = "Data(Cell { row: 1, column: 1, kind: NotText })";
+    assert_cell(&rt, rt.alloc(), ValueKind::Text, b"a\xff", refused)?;
+    Ok(())
+}
+
+#[test]
+fn loads_lists(rt: HostRuntime) -> Result<(), Fail> {
+    let refused = "Data(Cell { row: 1, column: 1, kind: NotIds })";
+    let cells = [
+        ("", "1 0 [] 3;"),
+        (" \t ", "1 0 [] 3;"),
+        ("\t3 1\t 2  1 ", "1 0 [1, 1, 2, 3] 3;"),
+        ("+2 -1 007 -0", "1 0 [-1, 0, 2, 7] 3;"),
+        ("1,2", refused),
+        ("1 x", refused),
+        ("1 -", refused),
+        ("1\n2", refused),
+        ("1\r2", refused),
+        ("1 9223372036854775808", refused),
+    ];
+    for (cell, expected) in cells {
+        assert_cell(&rt, rt.alloc(), ValueKind::Ids, cell.as_bytes(), expected)?;
+    }
+    Ok(())
+}
+
+// What a text cell is refused as: so many times `a`, and then this end.
+fn text_refusal(
+    rt: &impl Abort,
+    alloc: Global,
+    count: usize,
+    end: &[u8],
+) -> Result<Option<CellKind>, NoMemory> {
+    let mut cell = Vec::new(alloc);
+    for _ in 0..count {
+        cell.push(b'a')?;
+    }
+    cell.extend_from_slice(end)?;
+    let bytes = file_with_cell(alloc, cell.as_slice())?;
+    assert!(rt; bytes.len() < 1 << 32);
+    let columns = columns(alloc, ValueKind::Text, ValueKind::Int)?;
+    match rows_of(alloc, bytes.as_slice(), 1, &columns) {
+        Err(LoadStop::Data(RowStop::Cell { kind, .. })) => Ok(Some(kind)),
+        _ => Ok(None),
+    }
+}
+
+// A list of 1,000,001 entries, and a file of 500,001 edges, would take a minute to try.
+#[test]
+fn refuses_long_texts(rt: HostRuntime) -> Result<(), Fail> {
+    let most = MOST_TEXT_BYTES;
+    assert_eq!(rt; text_refusal(&rt, rt.alloc(), most, b"")?, None);
+    let too_long = Some(CellKind::TextTooLong);
+    assert_eq!(rt; text_refusal(&rt, rt.alloc(), most, b"a")?, too_long);
+    let not_text = Some(CellKind::NotText);
+    assert_eq!(rt; text_refusal(&rt, rt.alloc(), most, b"\xff")?, not_text);
+    Ok(())
+}
+
+#[test]
+fn refuses_the_first_of_several(rt: HostRuntime) -> Result<(), Fail> {
+    let cases = [
+        ("id,a,b\nx,True\n", "Data(Shape(1))"),
+        (
+            "id,a,b\nx,True,y\n",
+            "Data(Cell { row: 1, column: 0, kind: NotInt })",
+        ),
+        (
+            "id,a,b\n1,True,y\n2\n",
+            "Data(Cell { row: 1, column: 1, kind: NotBool })",
+        ),
+        (
+            "b,id,a\ny,1,true\nx,2,True\n",
+            "Data(Cell { row: 1, column: 2, kind: NotIds })",
+        ),
+        ("id,a,b\n1,true,2 1\n", "1 0 true [1, 2];"),
+    ];
+    for (text, expected) in cases {
+        let kinds = (ValueKind::Bool, ValueKind::Ids);
+        let found = loaded_text(&rt, rt.alloc(), text.as_bytes(), 1, kinds)?;
+        assert_eq!(rt; found.as_str(), expected, "at {text:?}");
     }
     Ok(())
 }
