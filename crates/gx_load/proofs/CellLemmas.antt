@@ -11,7 +11,8 @@ use Rattle.std.specs.Result.{result_ok}
 use Rattle.std.specs.Str.{IsAscii, all_ascii_digits}
 use Rattle.std.specs.Str.Parse.{AllDigits, IsNumeral, ParsesSigned, digits_value, signed_digits_value, without_leading_sign}
 use Rattle.csv.specs.Records.{field_at}
-use Rattle.gx_load.specs.Cells.{fits_64_bits, is_numeral, number_of}
+use Rattle.gx_load.specs.Cells.{is_numeral, number_of}
+use Rattle.gx_rows.specs.Bounds.{fits_64_bits}
 
 -- the test of the definition and that of `parse`
 digits : IsNumeralModel (λ ds. all_ascii_digits ds ≡ true) (digits_value 10)

@@ -1,8 +1,9 @@
 -- The cells of a data file: which bytes count, and the numbers and truth values that they spell.
-use Rattle.std.specs.Prelude.{◌≡◌, ℕ, ℤ, pos, negsuc, neg_ℤ, ◌^◌, ◌-◌, nat_lt, Bool, true, ◌||◌, ◌&&◌, ◌==◌, false, if◌then◌else◌, List, [], ◌∷◌, reverse, filter, Option, None, Some, bytes_eq, codes, refl}
+use Rattle.std.specs.Prelude.{◌≡◌, ℕ, ℤ, pos, neg_ℤ, ◌^◌, ◌-◌, Bool, true, ◌||◌, ◌&&◌, ◌==◌, false, if◌then◌else◌, List, [], ◌∷◌, reverse, filter, Option, None, Some, bytes_eq, codes, refl}
 use Rattle.std.specs.List.{slice_split}
 use Rattle.std.specs.Str.{all_ascii_digits}
 use Rattle.std.specs.Str.Parse.{without_leading_sign, signed_digits_value}
+use Rattle.gx_rows.specs.Bounds.{fits_64_bits}
 
 -- a space or a tab
 abbrev pub is_blank : ℕ → Bool
@@ -27,11 +28,6 @@ trim text = trim_end (trim_start text)
 abbrev pub is_numeral : List ℕ → Bool
 is_numeral [] = false
 is_numeral (digit ∷ digits) = all_ascii_digits (digit ∷ digits)
-
--- the number is one of 64 bits with a sign
-abbrev pub fits_64_bits : ℤ → Bool
-fits_64_bits (pos n) = nat_lt n (2 ^ 63)
-fits_64_bits (negsuc n) = nat_lt n (2 ^ 63)
 
 -- the number of 64 bits that a text spells: a sign or none, and then digits
 unfoldable pub number_of : List ℕ → Option ℤ
