@@ -1,6 +1,6 @@
 -- A sorted list with the same numbers is the list in ascending order.
 use Rattle.std.proofs.Common.{◌≡◌, ◌+◌, ◌<◌, ◌≤◌, ℕ, ℤ, Bool, true, false, cond, List, [], ◌∷◌, length, refl, sym, ap, ◌∙◌, arith, zero, suc, add-one, IsPermutation, IsSorted}
-use Rattle.std.specs.Prelude.{◌≤ℤ◌, ◌<ℤ◌, int_lt, sum_by, ⊤}
+use Rattle.std.specs.Prelude.{◌≤ℤ◌, int_lt, sum_by, ⊤}
 use Rattle.std.specs.List.{AllByRecursion}
 use Rattle.std.specs.Ordering.{int_cmp, int_eq, is_lt}
 use Rattle.std.proofs.lemmas.Int.{ints}

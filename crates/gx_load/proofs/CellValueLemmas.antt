@@ -1,5 +1,5 @@
 -- Results of cells, and the numbers of a list word by word.
-use Rattle.std.proofs.Common.{◌≡◌, ◌<◌, ◌≤◌, length, ◌∙◌, ℕ, ℤ, Bool, true, false, cond, [], ◌∷◌, ◌++◌, List, Option, None, Some, Result, Ok, Err, refl, sym, ap}
+use Rattle.std.proofs.Common.{◌≡◌, ◌<◌, ◌≤◌, length, ◌∙◌, ℕ, ℤ, Bool, true, false, cond, [], ◌∷◌, ◌++◌, List, None, Some, Result, Ok, Err, refl, sym}
 use Rattle.std.specs.Prelude.{ok_or, nat_lt}
 use Rattle.std.proofs.lemmas.Bool.{le-ltb, lt-ltb}
 use Rattle.gx_rows.specs.Bounds.{MOST_LIST_ENTRIES, MOST_TEXT_BYTES}
@@ -9,7 +9,7 @@ use Rattle.std.proofs.lemmas.Str.{IsUtf8-from_is_utf8, is_utf8-from_IsUtf8}
 use Rattle.gx_rows.specs.Results.{try_append, try_append-done, try_append-stop, try_append-try_cons}
 use Rattle.gx_load.specs.Ascending.{ascending}
 use Rattle.gx_load.specs.Cells.{is_blank, number_of, words_of}
-use Rattle.gx_load.specs.CellValues.{ids_of_cell, list_of_numbers, numbers_in, text_of_cell}
+use Rattle.gx_load.specs.CellValues.{ids_of_cell, numbers_in, text_of_cell}
 use Rattle.gx_load.specs.LoadResults.{GivesOfCell}
 use Rattle.gx_load.specs.declared.cell_value.CellStop.{CellStop}
 use Rattle.gx_load.specs.declared.cell_value.CellStop.TheVariants as cell_stop

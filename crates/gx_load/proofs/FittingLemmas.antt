@@ -1,8 +1,7 @@
 -- Rows that were loaded fit their columns, and are not too many.
-use Rattle.std.proofs.Common.{◌≡◌, ◌+◌, ◌<◌, ◌≤◌, ◌∙◌, ℕ, ℤ, Bool, true, false, cond, [], ◌∷◌, List, map, length, Option, None, Some, Result, Ok, Err, refl, sym, ap, subst, arith}
+use Rattle.std.proofs.Common.{◌≡◌, ◌+◌, ◌≤◌, ◌∙◌, ℕ, ℤ, Bool, true, false, cond, [], ◌∷◌, List, map, length, Option, None, Some, Result, Ok, Err, refl, sym, ap, subst, arith}
 use Rattle.std.specs.Prelude.{All, ◌&&◌, int_lt, nat_lt, option_map, ok_or, ◌==◌, pos}
 use Rattle.std.specs.Str.{is_utf8}
-use Rattle.std.proofs.lemmas.Bool.{le-ltb, lt-ltb}
 use Rattle.std.proofs.lemmas.Bool.Decides.{nat_tests}
 use Rattle.std.proofs.lemmas.List.Elements.{All-cons, All-nil}
 use Rattle.gx_rows.specs.Bounds.{IsBoundedRow, IsBoundedValue, MOST_LIST_ENTRIES, MOST_TEXT_BYTES}

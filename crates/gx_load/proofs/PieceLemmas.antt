@@ -1,5 +1,5 @@
 -- The first word of a text, and its first line.
-use Rattle.std.proofs.Common.{◌≡◌, ◌+◌, ◌<◌, ◌≤◌, ◌∙◌, ℕ, Bool, true, false, not, cond, min, List, [], ◌∷◌, length, take, drop, ◌-◌, length-drop, filter, refl, sym, ap, arith, zero, suc, add-one}
+use Rattle.std.proofs.Common.{◌≡◌, ◌+◌, ◌<◌, ◌∙◌, ℕ, Bool, true, false, not, cond, min, List, [], ◌∷◌, length, take, drop, ◌-◌, length-drop, filter, refl, sym, ap, arith, suc}
 use Rattle.std.specs.Bool.{◌==◌}
 use Rattle.std.proofs.lemmas.Bool.Decides.{nat_tests}
 use Rattle.std.proofs.lemmas.List.{take_all}

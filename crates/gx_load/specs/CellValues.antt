@@ -1,5 +1,5 @@
 -- The values in the cells of a data file, or what a cell is refused as.
-use Rattle.std.specs.Prelude.{◌≡◌, ℕ, ℤ, pos, neg_ℤ, nat_lt, if◌then◌else◌, List, [], ◌∷◌, length, Bool, true, option_map, ok_or, Result, Ok, Err, codes, refl}
+use Rattle.std.specs.Prelude.{◌≡◌, ℕ, ℤ, pos, neg_ℤ, nat_lt, if◌then◌else◌, List, [], ◌∷◌, length, option_map, ok_or, Result, Ok, Err, codes, refl}
 use Rattle.std.specs.Str.{chars, is_utf8}
 use lib.Utf8.{encode}
 use Rattle.gx_rows.specs.Bounds.{MOST_LIST_ENTRIES, MOST_TEXT_BYTES}

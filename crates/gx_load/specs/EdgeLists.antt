@@ -1,8 +1,7 @@
 -- The edges of an edge list, or the first line that is refused.
-use Rattle.std.specs.Prelude.{◌≡◌, ℕ, ℤ, pos, ◌+◌, ◌==◌, ◌||◌, ◌&&◌, not, Bool, true, false, if◌then◌else◌, int_lt, List, [], ◌∷◌, ◌++◌, filter, map, codes, Option, None, Some, option_and_then, option_map, ok_or, Result, Ok, Err, refl}
+use Rattle.std.specs.Prelude.{◌≡◌, ℕ, ℤ, pos, ◌+◌, ◌==◌, ◌||◌, ◌&&◌, not, Bool, true, false, if◌then◌else◌, int_lt, List, [], ◌∷◌, filter, codes, Option, None, option_and_then, option_map, ok_or, Result, Ok, Err, refl}
 use Rattle.std.specs.List.{slice_split}
 use Rattle.csv.specs.Reading.{strip_bom}
-use Rattle.gx_rows.specs.Results.{◌>>=◌}
 use Rattle.gx_rows.specs.declared.value.Value.{Value}
 use Rattle.gx_rows.specs.declared.value.Value.TheVariants as value
 use Rattle.gx_load.specs.Cells.{is_blank, number_of, words_of}

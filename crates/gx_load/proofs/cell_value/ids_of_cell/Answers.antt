@@ -1,4 +1,4 @@
-use Rattle.std.proofs.Common.{arith, sym}
+use Rattle.std.proofs.Common.{arith}
 use Rattle.gx_load.proofs.CellValueLemmas.{ids_of_cell-long, ids_of_cell-refused, ids_of_cell-short}
 use Rattle.gx_load.proofs.cell_value.ids_of_cell.Goals as goal
 

@@ -1,5 +1,3 @@
-use Rattle.std.proofs.Common.{arith, sym, ◌∙◌, ap}
-use Rattle.gx_load.specs.CellValues.{text_of_cell}
 use Rattle.gx_load.proofs.CellValueLemmas.{text_of_cell-long, text_of_cell-not_utf8, text_of_cell-short}
 use Rattle.gx_load.proofs.cell_value.text_of_cell.Goals as goal
 

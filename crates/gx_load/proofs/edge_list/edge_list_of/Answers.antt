@@ -1,4 +1,4 @@
-use Rattle.std.proofs.Common.{◌≡◌, ◌∷◌, ℕ, List, Result, Ok, arith, sym}
+use Rattle.std.proofs.Common.{◌≡◌, ℕ, List, Result, Ok, arith, sym}
 use Rattle.csv.specs.Reading.{strip_bom}
 use Rattle.gx_load.specs.EdgeLists.{edge_at, edge_lines_from, rows_of_edge_list}
 use Rattle.gx_load.specs.Loading.{LoadedRow}

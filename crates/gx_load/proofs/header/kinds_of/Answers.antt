@@ -1,4 +1,4 @@
-use Rattle.std.proofs.Common.{arith, sym, ◌∙◌, ap, ◌++◌, ◌∷◌, []}
+use Rattle.std.proofs.Common.{ap, ◌++◌, ◌∷◌, []}
 use Rattle.gx_load.proofs.HeaderLemmas.{kinds-more}
 use Rattle.gx_load.proofs.header.kinds_of.Goals as goal
 

@@ -1,4 +1,4 @@
-use Rattle.std.proofs.Common.{◌≡◌, ◌+◌, vec_len, drop}
+use Rattle.std.proofs.Common.{◌≡◌, vec_len}
 use Rattle.csv.specs.Records.{fields_of}
 use Rattle.gx_rows.specs.Results.{try_append}
 use Rattle.gx_load.proofs.RowLemmas.{values_after}

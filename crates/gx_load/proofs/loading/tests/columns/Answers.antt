@@ -2,6 +2,6 @@ use Rattle.std.proofs.Common.{rules}
 use Rattle.std.specs.List.{IsDistinct}
 use Rattle.gx_load.proofs.loading.tests.columns.Goals as goal
 
-pub of-requires-clause-distinct : goal.of-requires-clause-distinct
+pub of-requires-3-clause-distinct : goal.of-requires-3-clause-distinct
 unfolding IsDistinct
-of-requires-clause-distinct c = search rules
+of-requires-3-clause-distinct c = search rules
