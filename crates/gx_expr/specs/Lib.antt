@@ -1,1 +1,3 @@
+pub mod Evaluates
+pub mod Evaluation
 pub mod Typing

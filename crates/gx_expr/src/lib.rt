@@ -6,10 +6,14 @@
 //! kernels evaluate them; the crate sees neither a script nor a partition.
 #![tactic(auto)]
 
+mod arithmetic;
 mod expr;
 mod operators;
+mod parts;
+mod scope;
 mod side;
 
 pub use expr::Expr;
 pub use operators::{BinaryOp, Function, UnaryOp};
+pub use scope::Scope;
 pub use side::Side;
