@@ -149,8 +149,8 @@ binary_result binary.And a b = Ok (value.Bool (truth_of a && truth_of b))
 binary_result binary.Or a b = Ok (value.Bool (truth_of a || truth_of b))
 binary_result operator a b = Ok (value.Bool (comparison operator (value_cmp a b)))
 
+-- `if` is no part of it, since it does not evaluate all of its arguments
 abbrev pub call_result : Function → List Value → Result Value Cause
-call_result function.If (c ∷ a ∷ b ∷ []) = Ok (if truth_of c then a else b)
 call_result function.Min (a ∷ b ∷ []) = Ok (lesser a b)
 call_result function.Max (a ∷ b ∷ []) = Ok (greater a b)
 call_result function.Abs (a ∷ []) = int_result (exact_int (magnitude (int_of a)))
@@ -182,19 +182,27 @@ abbrev pub id_value : Option Vid → Value
 id_value (Some v) = value.Int v.0
 id_value None = value.Int (pos 0)
 
--- `and` and `or` evaluate their right side only if the left one does not decide; all others evaluate
--- both operands from left to right
+-- what the left side of `and` or `or` decides alone
+abbrev pub decided : BinaryOp → Bool → Option Bool
+decided binary.And false = Some false
+decided binary.Or true = Some true
+decided _ _ = None
+
+-- the right side of an operation whose left side has the value x; it is evaluated only if nothing is
+-- decided
+abbrev pub eval_right : ℕ → BinaryOp → Value → Option Bool → EvalResult → EvalResult
+eval_right n operator x (Some truth) b = Ok (value.Bool truth)
+eval_right n operator x None b = b >>= λ y. at_node n (binary_result operator x y)
+
 abbrev pub eval_binary : ℕ → BinaryOp → EvalResult → EvalResult → EvalResult
-eval_binary n binary.And a b = a >>= λ x. if truth_of x then b >>= (λ y. at_node n (binary_result binary.And x y)) else Ok (value.Bool false)
-eval_binary n binary.Or a b = a >>= λ x. if truth_of x then Ok (value.Bool true) else b >>= (λ y. at_node n (binary_result binary.Or x y))
-eval_binary n operator a b = a >>= λ x. b >>= λ y. at_node n (binary_result operator x y)
+eval_binary n operator a b = a >>= λ x. eval_right n operator x (decided operator (truth_of x)) b
 
 -- `if` evaluates its condition and one branch; all others evaluate their arguments from left to right
 abbrev pub eval_call : ℕ → Function → List EvalResult → EvalResult
-eval_call n function.If (c ∷ a ∷ b ∷ []) = c >>= λ x. if truth_of x then a else b
 eval_call n f [] = at_node n (call_result f [])
 eval_call n f (a ∷ []) = a >>= λ x. at_node n (call_result f (x ∷ []))
 eval_call n f (a ∷ b ∷ []) = a >>= λ x. b >>= λ y. at_node n (call_result f (x ∷ y ∷ []))
+eval_call n function.If (c ∷ a ∷ b ∷ []) = c >>= λ x. if truth_of x then a else b
 eval_call n _ _ = Ok (value.Int (pos 0))
 
 -- the result of an expression, from the results of its operands

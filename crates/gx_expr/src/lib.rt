@@ -7,12 +7,16 @@
 #![tactic(auto)]
 
 mod arithmetic;
+mod evaluate;
 mod expr;
+mod functions;
+mod operations;
 mod operators;
 mod parts;
 mod scope;
 mod side;
 
+pub use evaluate::eval;
 pub use expr::Expr;
 pub use operators::{BinaryOp, Function, UnaryOp};
 pub use scope::Scope;
