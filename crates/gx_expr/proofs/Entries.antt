@@ -124,11 +124,11 @@ pub with_entry-is : (xs ys : List ℤ) (z : ℤ) → IsSorted int_cmp xs → IsS
 with_entry-is xs ys z s t p =
     same ys (with_entry xs z) (ascends ys t) (with_entry-ascends xs z (ascends xs s))
     (λ f. let e = sum_by-IsPermutation f (xs ++ z ∷ []) ys p in
-        let g = sum_by-append f xs (z ∷ []) in
-        let l = total-sum_by f ys in
-        let k = total-sum_by f xs in
-        let h = with_entry-total f xs z in
-        omega (arith, e, g, l, k, h))
+    let g = sum_by-append f xs (z ∷ []) in
+    let l = total-sum_by f ys in
+    let k = total-sum_by f xs in
+    let h = with_entry-total f xs z in
+    omega (arith, e, g, l, k, h))
 
 -- the same of what a sort of those entries returns
 pub with_entry-sorted : {E : Type 0} (r : Result (List ℤ) E) (all xs : List ℤ) (z : ℤ) → IsSorted int_cmp xs → all ≡ xs ++ z ∷ []

@@ -197,13 +197,18 @@ eval_right n operator x None b = b >>= λ y. at_node n (binary_result operator x
 abbrev pub eval_binary : ℕ → BinaryOp → EvalResult → EvalResult → EvalResult
 eval_binary n operator a b = a >>= λ x. eval_right n operator x (decided operator (truth_of x)) b
 
--- `if` evaluates its condition and one branch; all others evaluate their arguments from left to right
+-- `if` evaluates its condition and one branch
+abbrev pub eval_three : Function → EvalResult → EvalResult → EvalResult → EvalResult
+eval_three function.If c a b = c >>= λ x. if truth_of x then a else b
+eval_three _ c a b = Ok (value.Int (pos 0))
+
+-- all others evaluate their arguments from left to right
 abbrev pub eval_call : ℕ → Function → List EvalResult → EvalResult
 eval_call n f [] = at_node n (call_result f [])
 eval_call n f (a ∷ []) = a >>= λ x. at_node n (call_result f (x ∷ []))
 eval_call n f (a ∷ b ∷ []) = a >>= λ x. b >>= λ y. at_node n (call_result f (x ∷ y ∷ []))
-eval_call n function.If (c ∷ a ∷ b ∷ []) = c >>= λ x. if truth_of x then a else b
-eval_call n _ _ = Ok (value.Int (pos 0))
+eval_call n f (c ∷ a ∷ b ∷ []) = eval_three f c a b
+eval_call n f _ = Ok (value.Int (pos 0))
 
 -- the result of an expression, from the results of its operands
 abbrev pub eval_layer : ScopeValues → Expr-F EvalResult → EvalResult

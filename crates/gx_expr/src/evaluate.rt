@@ -71,14 +71,17 @@ fn operand<'a, S: Scope>(
                 let b = operand(alloc, b, scope)?;
                 call_two(alloc, *n, *function, a, b)
             }
-            [condition, a, b] if matches!(function, Function::If) => {
-                let condition = operand(alloc, condition, scope)?;
-                if truth_of(&condition) {
-                    operand(alloc, a, scope)
-                } else {
-                    operand(alloc, b, scope)
+            [condition, a, b] => match function {
+                Function::If => {
+                    let condition = operand(alloc, condition, scope)?;
+                    if truth_of(&condition) {
+                        operand(alloc, a, scope)
+                    } else {
+                        operand(alloc, b, scope)
+                    }
                 }
-            }
+                _ => Ok(Cow::Owned(Value::Int(0))),
+            },
             _ => Ok(Cow::Owned(Value::Int(0))),
         },
     }

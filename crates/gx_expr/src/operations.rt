@@ -69,12 +69,7 @@ pub(crate) fn decided_by_left(operator: BinaryOp, left: bool) -> Option<bool>
 /// # Errors
 ///
 /// `Overflow` if the exact number leaves 64 bits, and `DivideByZero`.
-pub(crate) fn binary(
-    n: u32,
-    operator: BinaryOp,
-    a: &Value,
-    b: &Value,
-) -> Result<Value, EvalStop>
+pub(crate) fn binary(n: u32, operator: BinaryOp, a: &Value, b: &Value) -> Result<Value, EvalStop>
     ensures { EvaluatesTo result (at_node n (binary_result operator a.now b.now)) }
 {
     match operator {
