@@ -118,6 +118,7 @@ size_of _ = 0
 
 -- ---- functions on texts and lists
 
+-- a text that is not too long; that of a number of 64 bits never is
 abbrev pub bounded_text : List ℕ → Result Value Cause
 bounded_text bytes = if nat_le (length bytes) MOST_TEXT_BYTES then Ok (value.Text bytes) else Err cause.TextTooLong
 
@@ -156,7 +157,7 @@ call_result function.Max (a ∷ b ∷ []) = Ok (greater a b)
 call_result function.Abs (a ∷ []) = int_result (exact_int (magnitude (int_of a)))
 call_result function.Len (a ∷ []) = int_result (exact_int (pos (size_of a)))
 call_result function.Concat (a ∷ b ∷ []) = bounded_text (bytes_of a ++ bytes_of b)
-call_result function.Text (a ∷ []) = Ok (value.Text (signed_decimal (int_of a)))
+call_result function.Text (a ∷ []) = bounded_text (signed_decimal (int_of a))
 call_result function.Ids [] = Ok (value.Ids [])
 call_result function.Add (a ∷ b ∷ []) = bounded_list (with_entry (entries_of a) (int_of b))
 call_result function.Has (a ∷ b ∷ []) = Ok (value.Bool (has_entry (entries_of a) (int_of b)))
@@ -223,6 +224,10 @@ eval_layer s (layer.Call n f xs) = eval_call n f xs
 -- the value of an expression, or the fault that comes first
 abbrev pub eval_result : ScopeValues → Expr → EvalResult
 eval_result s e = fold-Expr EvalResult (eval_layer s) e
+
+-- the truth of a condition, or its fault
+abbrev pub truth_result : ScopeValues → Expr → Result Bool (Cause × ℕ)
+truth_result s e = eval_result s e >>= λ v. Ok (truth_of v)
 
 -- the result of an expression, by those of its operands
 pub eval_result-roll : (s : ScopeValues) (x : Expr-F Expr)

@@ -1,10 +1,11 @@
 //! Evaluation: one walk over the tree.
 
-ghost use Rattle.std.specs.Prelude.{◌≡◌};
+ghost use Rattle.std.specs.Prelude.{◌≡◌, IfOk};
 ghost use Rattle.std.specs.Cow.{cow_value};
 ghost use Rattle.std.specs.Option.{option_copied};
 ghost use Rattle.gx_expr.specs.Evaluates.{EvaluatesTo, EvaluatesToCow};
-ghost use Rattle.gx_expr.specs.Evaluation.{eval_result, id_value, value_or_zero};
+ghost use Rattle.gx_expr.specs.Evaluation.{eval_result, id_value, truth_result, value_or_zero};
+ghost use Rattle.gx_expr.specs.Soundness.{HasItsKind, IsBoundedResult};
 
 use crate::expr::Expr;
 use crate::operations::{binary, call_none, call_one, call_two, decided_by_left, unary};
@@ -87,16 +88,43 @@ fn operand<'a, S: Scope>(
     }
 }
 
-/// The value of an expression.
-///
-/// # Errors
-///
-/// The first fault, with its cause and the number of the operation that faults; `NoMemory`.
-pub fn eval<S: Scope>(alloc: Global, e: &Expr, scope: &S) -> Result<Value, EvalStop>
+// The value of an expression, owned.
+fn owned_value<S: Scope>(alloc: Global, e: &Expr, scope: &S) -> Result<Value, EvalStop>
     ensures { EvaluatesTo result (eval_result (S.values scope.now) e.now) }
 {
     match operand(alloc, e, scope)? {
         Cow::Borrowed(value) => Ok(value.copy()?),
         Cow::Owned(value) => Ok(value),
     }
+}
+
+/// The value of an expression. If it is a number or a truth value, this takes memory only for the
+/// texts and lists that are made on the way to it.
+///
+/// A well-typed expression has a value of its kind; values of the scope and constants that are
+/// within bounds give a value within bounds.
+///
+/// # Errors
+///
+/// The first fault in the order of evaluation, with its cause and the number of the operation that
+/// faults; `NoMemory`.
+#[tactic(auto, using(crate::proofs::Results::evaluated))]
+pub fn eval<S: Scope>(alloc: Global, e: &Expr, scope: &S) -> Result<Value, EvalStop>
+    ensures defined { EvaluatesTo result (eval_result (S.values scope.now) e.now) }
+    ensures kind { IfOk result (HasItsKind (S.values scope.now) e.now) }
+    ensures bounded { IfOk result (IsBoundedResult (S.values scope.now) e.now) }
+{
+    owned_value(alloc, e, scope)
+}
+
+/// Whether a condition holds: the truth of its value.
+///
+/// # Errors
+///
+/// As those of `eval`.
+pub fn truth<S: Scope>(alloc: Global, e: &Expr, scope: &S) -> Result<bool, EvalStop>
+    ensures { EvaluatesTo result (truth_result (S.values scope.now) e.now) }
+{
+    let value = operand(alloc, e, scope)?;
+    Ok(truth_of(&value))
 }

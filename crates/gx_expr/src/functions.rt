@@ -1,9 +1,8 @@
 //! Functions on texts and lists.
 
-ghost use Rattle.std.specs.Prelude.{◌≡◌, ◌<◌, [], ◌++◌, IfOk, IsSorted, Ok, length};
+ghost use Rattle.std.specs.Prelude.{◌≡◌, ◌<◌, [], ◌++◌, IfOk, IsSorted, length};
 ghost use Rattle.std.specs.Fmt.{signed_decimal};
 ghost use Rattle.std.specs.Ordering.{int_cmp};
-ghost use Rattle.gx_rows.specs.declared.value.Value.TheVariants as value;
 ghost use Rattle.gx_expr.specs.Evaluates.{EvaluatesTo};
 ghost use Rattle.gx_expr.specs.Evaluation.{
   at_node,
@@ -49,8 +48,8 @@ fn joined(alloc: Global, a: &str, b: &str) -> Result<Text, NoMemory>
 /// # Errors
 ///
 /// `NoMemory` if memory for it runs out.
-pub(crate) fn decimal_text(alloc: Global, number: i64) -> Result<Value, EvalStop>
-    ensures { EvaluatesTo result (Ok (value.Text (signed_decimal number))) }
+pub(crate) fn decimal_text(alloc: Global, n: u32, number: i64) -> Result<Value, EvalStop>
+    ensures { EvaluatesTo result (at_node n (bounded_text (signed_decimal number))) }
 {
     let mut buffer = Buffer::new();
     Ok(Value::Text(Text::of(alloc, buffer.format(number))?))

@@ -16,7 +16,7 @@ mod parts;
 mod scope;
 mod side;
 
-pub use evaluate::eval;
+pub use evaluate::{eval, truth};
 pub use expr::Expr;
 pub use operators::{BinaryOp, Function, UnaryOp};
 pub use scope::Scope;

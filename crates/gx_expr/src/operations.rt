@@ -112,7 +112,7 @@ pub(crate) fn call_one(
     match function {
         Function::Abs => Ok(Value::Int(absolute(n, int_of(a))?)),
         Function::Len => Ok(Value::Int(length_as_int(n, size_of_value(a))?)),
-        Function::Text => decimal_text(alloc, int_of(a)),
+        Function::Text => decimal_text(alloc, n, int_of(a)),
         _ => Ok(Value::Int(0)),
     }
 }
