@@ -84,6 +84,15 @@ arithmetic_result binary.Div a b = quotient a b
 arithmetic_result binary.Rem a b = remainder a b
 arithmetic_result _ a b = Ok (pos 0)
 
+-- the operators on numbers
+abbrev pub is_arithmetic : BinaryOp → Bool
+is_arithmetic binary.Add = true
+is_arithmetic binary.Sub = true
+is_arithmetic binary.Mul = true
+is_arithmetic binary.Div = true
+is_arithmetic binary.Rem = true
+is_arithmetic _ = false
+
 abbrev pub int_result : Result ℤ Cause → Result Value Cause
 int_result step = step >>= λ z. Ok (value.Int z)
 
@@ -224,6 +233,10 @@ eval_layer s (layer.Call n f xs) = eval_call n f xs
 -- the value of an expression, or the fault that comes first
 abbrev pub eval_result : ScopeValues → Expr → EvalResult
 eval_result s e = fold-Expr EvalResult (eval_layer s) e
+
+-- the number of an expression, or its fault
+abbrev pub number_result : ScopeValues → Expr → Result ℤ (Cause × ℕ)
+number_result s e = eval_result s e >>= λ v. Ok (int_of v)
 
 -- the truth of a condition, or its fault
 abbrev pub truth_result : ScopeValues → Expr → Result Bool (Cause × ℕ)

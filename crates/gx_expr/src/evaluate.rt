@@ -4,13 +4,14 @@ ghost use Rattle.std.specs.Prelude.{◌≡◌, IfOk};
 ghost use Rattle.std.specs.Cow.{cow_value};
 ghost use Rattle.std.specs.Option.{option_copied};
 ghost use Rattle.gx_expr.specs.Evaluates.{EvaluatesTo, EvaluatesToCow};
-ghost use Rattle.gx_expr.specs.Evaluation.{eval_result, id_value, truth_result, value_or_zero};
+ghost use Rattle.gx_expr.specs.Evaluation.{eval_result, id_value, int_of, number_result, truth_result, value_or_zero};
 ghost use Rattle.gx_expr.specs.Soundness.{HasItsKind, IsBoundedResult};
 
+use crate::arithmetic::arithmetic;
 use crate::expr::Expr;
 use crate::operations::{binary, call_none, call_one, call_two, decided_by_left, unary};
 use crate::operators::Function;
-use crate::parts::truth_of;
+use crate::parts::{number_of, truth_of};
 use crate::scope::Scope;
 use gx_rows::{EvalStop, Value, Vid};
 use std::alloc::Global;
@@ -36,7 +37,40 @@ fn id_as_value(id: Option<Vid>) -> Value
     }
 }
 
+// The number of a column; 0 if the scope does not have it.
+fn column_number(value: Option<&Value>) -> i64
+    ensures { result ≡ int_of (value_or_zero (option_copied value.entry)) }
+{
+    match value {
+        Some(value) => number_of(value),
+        None => 0,
+    }
+}
+
+// The number of an expression. Numbers are passed on as they are: no value is made of them on the
+// way.
+#[cycle(evaluation)]
+#[tactic(auto, using(crate::proofs::Calls::eval_arithmetic))]
+fn number<S: Scope>(alloc: Global, e: &Expr, scope: &S) -> Result<i64, EvalStop>
+    ensures { EvaluatesTo result (number_result (S.values scope.now) e.now) }
+{
+    match e {
+        Expr::Column(_, side, i) => Ok(column_number(scope.column(*side, *i))),
+        Expr::Binary(n, operator, a, b) if operator.is_arithmetic() => {
+            let a = number(alloc, a.get(), scope)?;
+            let b = number(alloc, b.get(), scope)?;
+            arithmetic(*n, *operator, a, b)
+        }
+        _ => {
+            let value = operand(alloc, e, scope)?;
+            Ok(number_of(&value))
+        }
+    }
+}
+
 // The value of an expression, borrowed if it is a constant or a column.
+#[cycle(evaluation)]
+#[tactic(auto, using(crate::proofs::Calls::eval_arithmetic))]
 fn operand<'a, S: Scope>(
     alloc: Global,
     e: &'a Expr,
@@ -52,6 +86,11 @@ fn operand<'a, S: Scope>(
         Expr::Unary(n, operator, a) => {
             let a = operand(alloc, a.get(), scope)?;
             Ok(Cow::Owned(unary(*n, *operator, &a)?))
+        }
+        Expr::Binary(n, operator, a, b) if operator.is_arithmetic() => {
+            let a = number(alloc, a.get(), scope)?;
+            let b = number(alloc, b.get(), scope)?;
+            Ok(Cow::Owned(Value::Int(arithmetic(*n, *operator, a, b)?)))
         }
         Expr::Binary(n, operator, a, b) => {
             let a = operand(alloc, a.get(), scope)?;

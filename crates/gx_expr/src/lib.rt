@@ -15,6 +15,8 @@ mod operators;
 mod parts;
 mod scope;
 mod side;
+#[cfg(test)]
+mod tests;
 
 pub use evaluate::{eval, truth};
 pub use expr::Expr;

@@ -18,7 +18,7 @@ ghost use Rattle.gx_expr.specs.Evaluation.{
 use crate::arithmetic::{absolute, arithmetic, length_as_int, negated};
 use crate::functions::{add_entry, concat, decimal_text, has, no_ids};
 use crate::operators::{BinaryOp, Function, UnaryOp};
-use crate::parts::{entries_of, int_of, size_of_value, text_of, truth_of};
+use crate::parts::{entries_of, number_of, size_of_value, text_of, truth_of};
 use gx_rows::{EvalStop, Value};
 use std::alloc::Global;
 use std::borrow::Cow;
@@ -33,7 +33,7 @@ pub(crate) fn unary(n: u32, operator: UnaryOp, a: &Value) -> Result<Value, EvalS
     ensures { EvaluatesTo result (at_node n (unary_result operator a.now)) }
 {
     match operator {
-        UnaryOp::Neg => Ok(Value::Int(negated(n, int_of(a))?)),
+        UnaryOp::Neg => Ok(Value::Int(negated(n, number_of(a))?)),
         UnaryOp::Not => Ok(Value::Bool(!truth_of(a))),
     }
 }
@@ -74,7 +74,7 @@ pub(crate) fn binary(n: u32, operator: BinaryOp, a: &Value, b: &Value) -> Result
 {
     match operator {
         BinaryOp::Add | BinaryOp::Sub | BinaryOp::Mul | BinaryOp::Div | BinaryOp::Rem => {
-            Ok(Value::Int(arithmetic(n, operator, int_of(a), int_of(b))?))
+            Ok(Value::Int(arithmetic(n, operator, number_of(a), number_of(b))?))
         }
         BinaryOp::And => Ok(Value::Bool(truth_of(a) && truth_of(b))),
         BinaryOp::Or => Ok(Value::Bool(truth_of(a) || truth_of(b))),
@@ -110,9 +110,9 @@ pub(crate) fn call_one(
     ensures { EvaluatesTo result (at_node n (call_result function (a.now ∷ []))) }
 {
     match function {
-        Function::Abs => Ok(Value::Int(absolute(n, int_of(a))?)),
+        Function::Abs => Ok(Value::Int(absolute(n, number_of(a))?)),
         Function::Len => Ok(Value::Int(length_as_int(n, size_of_value(a))?)),
-        Function::Text => decimal_text(alloc, n, int_of(a)),
+        Function::Text => decimal_text(alloc, n, number_of(a)),
         _ => Ok(Value::Int(0)),
     }
 }
@@ -137,8 +137,8 @@ pub(crate) fn call_two<'a>(
         Function::Min => Ok(if a.compare(&b).is_le() { a } else { b }),
         Function::Max => Ok(if a.compare(&b).is_le() { b } else { a }),
         Function::Concat => Ok(Cow::Owned(concat(alloc, n, text_of(&a), text_of(&b))?)),
-        Function::Add => Ok(Cow::Owned(add_entry(alloc, n, entries_of(&a), int_of(&b))?)),
-        Function::Has => Ok(Cow::Owned(Value::Bool(has(entries_of(&a), int_of(&b))))),
+        Function::Add => Ok(Cow::Owned(add_entry(alloc, n, entries_of(&a), number_of(&b))?)),
+        Function::Has => Ok(Cow::Owned(Value::Bool(has(entries_of(&a), number_of(&b))))),
         _ => Ok(Cow::Owned(Value::Int(0))),
     }
 }

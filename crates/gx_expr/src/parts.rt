@@ -8,7 +8,7 @@ ghost use Rattle.gx_expr.specs.Evaluation.{bytes_of, entries_of, int_of, size_of
 use gx_rows::Value;
 
 /// The number of a value.
-pub(crate) fn int_of(value: &Value) -> i64
+pub(crate) fn number_of(value: &Value) -> i64
     ensures { result ≡ int_of value.now }
 {
     match value {
