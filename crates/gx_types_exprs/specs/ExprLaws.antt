@@ -1,5 +1,5 @@
 -- What holds of each expression that is accepted.
-use Rattle.std.specs.Prelude.{◌≡◌, ℕ, zero, suc, ◌+◌, ◌≤◌, max, All, Some, Ok, List, [], ◌∷◌, ◌++◌, flat_map}
+use Rattle.std.specs.Prelude.{◌≡◌, ℕ, zero, suc, ◌+◌, ◌≤◌, max, All, Some, Ok, List, [], ◌∷◌, ◌++◌, flat_map, refl}
 use Rattle.gx_rows.specs.Bounds.{IsBoundedValue}
 use Rattle.gx_expr.specs.Soundness.{constants_in}
 use Rattle.gx_expr.specs.Typing.{kind_of_expr}
@@ -41,8 +41,11 @@ abbrev pub numbers_from : ℕ → ℕ → List ℕ
 numbers_from first zero = []
 numbers_from first (suc count) = first ∷ numbers_from (first + 1) count
 
--- the tree is well typed in the scope, of the kind beside it, and no deeper than an evaluation goes;
--- its texts are those of values
+two_numbers : numbers_from 3 2 ≡ 3 ∷ 4 ∷ []
+two_numbers = refl
+
+-- the tree is well typed in the scope, of the kind beside it, and at most 64 deep; its texts are
+-- those of values
 pub record IsWellTyped (s : ScopeNames) (t : TypedExpr) : Type 0 where
   pub kind_is : kind_of_expr (scope_type s) t.expr ≡ Some t.kind
   pub constants_bounded : All IsBoundedValue (constants_in t.expr)
