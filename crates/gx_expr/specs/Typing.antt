@@ -37,17 +37,17 @@ kind_of_unary unary.Not kind.Bool = Some kind.Bool
 kind_of_unary unary.Not _ = None
 
 -- two ints, and the kind that comes of them
-abbrev of_ints : ValueKind → ValueKind → ValueKind → Option ValueKind
+abbrev pub of_ints : ValueKind → ValueKind → ValueKind → Option ValueKind
 of_ints kind.Int kind.Int given = Some given
 of_ints _ _ given = None
 
 -- two truth values
-abbrev of_bools : ValueKind → ValueKind → ValueKind → Option ValueKind
+abbrev pub of_bools : ValueKind → ValueKind → ValueKind → Option ValueKind
 of_bools kind.Bool kind.Bool given = Some given
 of_bools _ _ given = None
 
 -- two of one kind
-abbrev of_alike : ValueKind → ValueKind → ValueKind → Option ValueKind
+abbrev pub of_alike : ValueKind → ValueKind → ValueKind → Option ValueKind
 of_alike kind.Int kind.Int given = Some given
 of_alike kind.Text kind.Text given = Some given
 of_alike kind.Bool kind.Bool given = Some given

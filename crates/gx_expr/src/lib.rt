@@ -6,10 +6,20 @@
 //! kernels evaluate them; the crate sees neither a script nor a partition.
 #![tactic(auto)]
 
+mod arithmetic;
+mod evaluate;
 mod expr;
+mod functions;
+mod operations;
 mod operators;
+mod parts;
+mod scope;
 mod side;
+#[cfg(test)]
+mod tests;
 
+pub use evaluate::{eval, truth};
 pub use expr::Expr;
 pub use operators::{BinaryOp, Function, UnaryOp};
+pub use scope::Scope;
 pub use side::Side;

@@ -1,5 +1,8 @@
 //! Operators and functions. What they mean is in specs/.
 
+ghost use Rattle.std.specs.Prelude.{◌≡◌};
+ghost use Rattle.gx_expr.specs.Evaluation.{is_arithmetic};
+
 /// A prefix operator.
 #[derive(Clone, Copy, Debug, PartialEq, Eq)]
 pub enum UnaryOp {
@@ -38,6 +41,18 @@ pub enum BinaryOp {
     And,
     /// `a or b`
     Or,
+}
+
+impl BinaryOp {
+    /// Whether it is an operator on numbers that gives a number.
+    pub(crate) fn is_arithmetic(self) -> bool
+        ensures { result ≡ is_arithmetic self }
+    {
+        matches!(
+            self,
+            BinaryOp::Add | BinaryOp::Sub | BinaryOp::Mul | BinaryOp::Div | BinaryOp::Rem
+        )
+    }
 }
 
 /// A function.

@@ -7,6 +7,7 @@ use Rattle.gx_rows.specs.Kinds.{kind_of}
 use Rattle.gx_rows.specs.declared.value.Value.{Value}
 use Rattle.gx_rows.specs.declared.value.ValueKind.{ValueKind}
 use Rattle.gx_rows.specs.declared.value.ValueKind.TheVariants as kind
+use Rattle.gx_expr.specs.Soundness.{constants_in, constants_in-roll, constants_in_layer}
 use Rattle.gx_expr.specs.Typing.{ScopeType, all_some, kind_of_binary, kind_of_call, kind_of_expr, kind_of_expr-roll, kind_of_layer, kind_of_unary}
 use Rattle.gx_expr.specs.declared.expr.Expr.{Expr, map-Expr, roll-Expr}
 use Rattle.gx_expr.specs.declared.expr.Expr.TheFolds.{fold-roll-Expr}
@@ -19,24 +20,24 @@ use Rattle.gx_expr.specs.declared.operators.Function.{Function}
 use Rattle.gx_expr.specs.declared.operators.UnaryOp.{UnaryOp}
 use Rattle.gx_expr.specs.declared.side.Side.{Side}
 use Rattle.gx_syntax_tree.specs.Bounds.{greatest}
-use Rattle.gx_types_exprs.specs.ExprLaws.{constants_of, constants_of_layer, numbered_depth, numbered_depth_of_layer, numbers_of, numbers_of_layer}
+use Rattle.gx_types_exprs.specs.ExprLaws.{numbered_depth, numbered_depth_of_layer, numbers_of, numbers_of_layer}
 
 -- a tree of this kind and depth, with these numbers of nodes, whose constants are bounded
 pub record HasFacts (s : ScopeType) (d : ℕ) (ns : List ℕ) (e : Expr) (k : ValueKind) : Type 0 where
   pub kind_is : kind_of_expr s e ≡ Some k
-  pub constants_bounded : All IsBoundedValue (constants_of e)
+  pub constants_bounded : All IsBoundedValue (constants_in e)
   pub depth_is : numbered_depth e ≡ d
   pub numbers_are : numbers_of e ≡ ns
 
 facts-roll : (s : ScopeType) (d : ℕ) (ns : List ℕ) (e : Expr) (k : ValueKind) (y : Expr-F Expr) → roll-Expr y ≡ e
     → kind_of_layer s (map-Expr Expr (Option ValueKind) (kind_of_expr s) y) ≡ Some k
-    → All IsBoundedValue (constants_of_layer (map-Expr Expr (List Value) constants_of y))
+    → All IsBoundedValue (constants_in_layer (map-Expr Expr (List Value) constants_in y))
     → numbered_depth_of_layer (map-Expr Expr ℕ numbered_depth y) ≡ d
     → numbers_of_layer (map-Expr Expr (List ℕ) numbers_of y) ≡ ns
     → HasFacts s d ns e k
 facts-roll s d ns e k y rolled kind bounded deep numbered = subst (λ x. HasFacts s d ns x k) rolled (record {
   kind_is = kind_of_expr-roll s y ∙ kind;
-  constants_bounded = subst (All IsBoundedValue) (sym (fold-roll-Expr (List Value) constants_of_layer y)) bounded;
+  constants_bounded = subst (All IsBoundedValue) (sym (constants_in-roll y)) bounded;
   depth_is = fold-roll-Expr ℕ numbered_depth_of_layer y ∙ deep;
   numbers_are = fold-roll-Expr (List ℕ) numbers_of_layer y ∙ numbered;
 })
@@ -62,12 +63,12 @@ module _ (s : ScopeType) (n : ℕ) where
       → HasFacts s (suc (max d e)) (n ∷ ns ++ ms) (expr.Binary n o a b) k
   facts-binary o a b d e ns ms ka kb k h g same =
       facts-roll s (suc (max d e)) (n ∷ ns ++ ms) (expr.Binary n o a b) k (layer.Binary n o a b) (rolls-Binary n o a b) (rw (h.kind_is, g.kind_is) same)
-      (All-append IsBoundedValue (constants_of a) (constants_of b) h.constants_bounded g.constants_bounded) (rw (h.depth_is, g.depth_is) refl) (rw (h.numbers_are, g.numbers_are) refl)
+      (All-append IsBoundedValue (constants_in a) (constants_in b) h.constants_bounded g.constants_bounded) (rw (h.depth_is, g.depth_is) refl) (rw (h.numbers_are, g.numbers_are) refl)
 
 -- the same of the arguments of a call
 pub record HaveFacts (s : ScopeType) (ds ns : List ℕ) (es : List Expr) (ks : List ValueKind) : Type 0 where
   pub kinds_are : all_some (map (kind_of_expr s) es) ≡ Some ks
-  pub constants_bounded : All IsBoundedValue (flat_map (λ x. x) (map constants_of es))
+  pub constants_bounded : All IsBoundedValue (flat_map (λ x. x) (map constants_in es))
   pub depths_are : map numbered_depth es ≡ ds
   pub numbers_are : flat_map (λ x. x) (map numbers_of es) ≡ ns
 
@@ -78,7 +79,7 @@ pub facts-more : (s : ScopeType) (d : ℕ) (ds ms ns : List ℕ) (e : Expr) (es 
     → HaveFacts s (d ∷ ds) (ms ++ ns) (e ∷ es) (k ∷ ks)
 facts-more s d ds ms ns e es k ks h g = record {
   kinds_are = rw (h.kind_is, g.kinds_are) refl;
-  constants_bounded = All-append IsBoundedValue (constants_of e) (flat_map (λ x. x) (map constants_of es)) h.constants_bounded g.constants_bounded;
+  constants_bounded = All-append IsBoundedValue (constants_in e) (flat_map (λ x. x) (map constants_in es)) h.constants_bounded g.constants_bounded;
   depths_are = rw (h.depth_is, g.depths_are) refl;
   numbers_are = rw (h.numbers_are, g.numbers_are) refl;
 }

@@ -1,7 +1,7 @@
 -- What holds of each expression that is accepted.
-use Rattle.std.specs.Prelude.{◌≡◌, ℕ, zero, suc, ◌+◌, ◌≤◌, max, All, Some, Ok, List, [], ◌∷◌, ◌++◌, flat_map}
+use Rattle.std.specs.Prelude.{◌≡◌, ℕ, zero, suc, ◌+◌, ◌≤◌, max, All, Some, Ok, List, [], ◌∷◌, ◌++◌, flat_map, refl}
 use Rattle.gx_rows.specs.Bounds.{IsBoundedValue}
-use Rattle.gx_rows.specs.declared.value.Value.{Value}
+use Rattle.gx_expr.specs.Soundness.{constants_in}
 use Rattle.gx_expr.specs.Typing.{kind_of_expr}
 use Rattle.gx_expr.specs.declared.expr.Expr.{Expr}
 use Rattle.gx_expr.specs.declared.expr.Expr.TheFolds.{fold-Expr}
@@ -12,17 +12,6 @@ use Rattle.gx_syntax_tree.specs.declared.expr.Expr.{Expr as Written}
 use Rattle.gx_types_exprs.specs.ExprScopes.{ScopeNames, scope_type}
 use Rattle.gx_types_exprs.specs.ExprTyping.{typed_expr}
 use Rattle.gx_types_exprs.specs.declared.typed_expr.TypedExpr.{TypedExpr}
-
--- the constants of a numbered tree, from those of its operands
-abbrev pub constants_of_layer : Expr-F (List Value) → List Value
-constants_of_layer (layer.Const n v) = v ∷ []
-constants_of_layer (layer.Unary n o a) = a
-constants_of_layer (layer.Binary n o a b) = a ++ b
-constants_of_layer (layer.Call n f xs) = flat_map (λ x. x) xs
-constants_of_layer _ = []
-
-abbrev pub constants_of : Expr → List Value
-constants_of e = fold-Expr (List Value) constants_of_layer e
 
 -- the depth of a numbered tree
 abbrev pub numbered_depth_of_layer : Expr-F ℕ → ℕ
@@ -52,11 +41,14 @@ abbrev pub numbers_from : ℕ → ℕ → List ℕ
 numbers_from first zero = []
 numbers_from first (suc count) = first ∷ numbers_from (first + 1) count
 
--- the tree is well typed in the scope, of the kind beside it, and no deeper than an evaluation goes;
--- its texts are those of values
+two_numbers : numbers_from 3 2 ≡ 3 ∷ 4 ∷ []
+two_numbers = refl
+
+-- the tree is well typed in the scope, of the kind beside it, and at most 64 deep; its texts are
+-- those of values
 pub record IsWellTyped (s : ScopeNames) (t : TypedExpr) : Type 0 where
   pub kind_is : kind_of_expr (scope_type s) t.expr ≡ Some t.kind
-  pub constants_bounded : All IsBoundedValue (constants_of t.expr)
+  pub constants_bounded : All IsBoundedValue (constants_in t.expr)
   pub depth_bounded : numbered_depth t.expr ≤ 64
 
 -- the nodes are numbered from the first number on, in text order, and so many numbers are used

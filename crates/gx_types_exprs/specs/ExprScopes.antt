@@ -1,5 +1,5 @@
 -- What an expression may read, by names, at each place of a script.
-use Rattle.std.specs.Prelude.{Bool, true, false, ◌&&◌, Option, None, Some, List, [], map}
+use Rattle.std.specs.Prelude.{◌≡◌, Bool, true, false, ◌&&◌, Option, None, Some, List, [], map, refl}
 use Rattle.std.specs.Option.{is_some, unwrap_or}
 use Rattle.gx_rows.specs.Columns.{Column}
 use Rattle.gx_expr.specs.Typing.{ScopeType}
@@ -99,3 +99,11 @@ scope_type s = record {
   has_id = λ d. side_has_id d && has_side s d;
   has_matched = s.has_matched;
 }
+
+-- where edges are mapped, a source is in scope with its identifier alone, and there is no `v`
+edge_scope-sides : (edge : List Column)
+    → (has_side (edge_scope edge) side.Src ≡ true)
+    × (readable_columns (edge_scope edge) side.Src ≡ [])
+    × (readable_columns (edge_scope edge) side.Edge ≡ edge)
+    × (has_side (edge_scope edge) side.Vertex ≡ false)
+edge_scope-sides edge = (refl, refl, refl, refl)

@@ -1,7 +1,7 @@
 -- What the words and operators of an expression stand for.
 --
 -- To add a function, add its line here and its arm in src/words.rt.
-use Rattle.std.specs.Prelude.{ℕ, if◌then◌else◌, Option, None, Some, List, codes, bytes_eq}
+use Rattle.std.specs.Prelude.{◌≡◌, ℕ, if◌then◌else◌, Option, None, Some, List, codes, bytes_eq, refl}
 use Rattle.gx_expr.specs.declared.operators.BinaryOp.{BinaryOp}
 use Rattle.gx_expr.specs.declared.operators.BinaryOp.TheVariants as binary
 use Rattle.gx_expr.specs.declared.operators.Function.{Function}
@@ -72,3 +72,10 @@ binary_of_written written_binary.Rem = binary.Rem
 abbrev pub unary_of_written : WrittenUnary → UnaryOp
 unary_of_written written_unary.Not = unary.Not
 unary_of_written written_unary.Neg = unary.Neg
+
+-- `o.a` reads the joined row; `max` is a function, and `mean` is none
+words-mean :
+    (side_of_word (codes "o") ≡ Some side.Other)
+    × (function_of_word (codes "max") ≡ Some function.Max)
+    × (function_of_word (codes "mean") ≡ None)
+words-mean = (refl, refl, refl)

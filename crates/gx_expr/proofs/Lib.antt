@@ -1,0 +1,4 @@
+pub mod Calls
+pub mod Entries
+pub mod Numbers
+pub mod Results

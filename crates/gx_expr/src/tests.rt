@@ -1,0 +1,355 @@
+//! Expressions over a small scope, each with the value or the fault that is worked by hand. The
+//! number of a row's operation is 3; an operand that must fault first, or not at all, is 7.
+
+ghost use Rattle.std.specs.Prelude.{[], None, Some};
+ghost use Rattle.gx_expr.specs.declared.side.Side.TheVariants.{Vertex};
+
+use crate::{BinaryOp, Expr, Function, Scope, Side, UnaryOp, eval, truth};
+use gx_rows::{Cause, EvalStop, IdList, NoMemory, Row, Text, Value, Vid};
+use sqlite_items::{Boxed, Items};
+use std::alloc::Global;
+use std::test::Fail;
+
+type Case = (Expr, Result<Value, EvalStop>);
+
+struct Sample {
+    vertex: Row,
+    id: Vid,
+    matched: bool,
+}
+
+impl Scope for Sample {
+    ghost values = { λ s. record {
+      columns = λ side. (elim side [ Vertex ↦ s.vertex | _ ↦ [] ]);
+      id = λ side. (elim side [ Vertex ↦ Some s.id | _ ↦ None ]);
+      matched = s.matched;
+    } };
+
+    fn column(&self, side: Side, i: u32) -> Option<&Value> {
+        match side {
+            Side::Vertex => self.vertex.get(i),
+            _ => None,
+        }
+    }
+
+    fn id(&self, side: Side) -> Option<Vid> {
+        match side {
+            Side::Vertex => Some(self.id),
+            _ => None,
+        }
+    }
+
+    fn matched(&self) -> bool {
+        self.matched
+    }
+}
+
+fn text(alloc: Global, chars: &str) -> Result<Value, NoMemory> {
+    Ok(Value::Text(Text::of(alloc, chars)?))
+}
+
+fn ids(alloc: Global, entries: &[i64]) -> Result<Value, NoMemory> {
+    Ok(Value::Ids(IdList::of(alloc, entries)?))
+}
+
+fn int(number: i64) -> Expr {
+    Expr::Const(9, Value::Int(number))
+}
+
+fn constant(value: Value) -> Expr {
+    Expr::Const(9, value)
+}
+
+fn fault(cause: Cause, expr: u32) -> Result<Value, EvalStop> {
+    Err(EvalStop::Fault { cause, expr })
+}
+
+fn unary(alloc: Global, operator: UnaryOp, a: Expr) -> Result<Expr, NoMemory> {
+    Ok(Expr::Unary(3, operator, Boxed::new(alloc, a)?))
+}
+
+fn binary(alloc: Global, n: u32, operator: BinaryOp, a: Expr, b: Expr) -> Result<Expr, NoMemory> {
+    let a = Boxed::new(alloc, a)?;
+    let b = Boxed::new(alloc, b)?;
+    Ok(Expr::Binary(n, operator, a, b))
+}
+
+// `1 / 0`, at node 7.
+fn faulty(alloc: Global) -> Result<Expr, NoMemory> {
+    binary(alloc, 7, BinaryOp::Div, int(1), int(0))
+}
+
+// `1 / 0 == 0`, which has no truth.
+fn faulty_test(alloc: Global) -> Result<Expr, NoMemory> {
+    let a = faulty(alloc)?;
+    binary(alloc, 8, BinaryOp::Eq, a, int(0))
+}
+
+fn call_one(alloc: Global, function: Function, a: Expr) -> Result<Expr, NoMemory> {
+    let mut arguments = Vec::new(alloc);
+    arguments.push(a)?;
+    Ok(Expr::Call(3, function, Items::from_vec(arguments)))
+}
+
+fn call_two(alloc: Global, function: Function, a: Expr, b: Expr) -> Result<Expr, NoMemory> {
+    let mut arguments = Vec::new(alloc);
+    arguments.push(a)?;
+    arguments.push(b)?;
+    Ok(Expr::Call(3, function, Items::from_vec(arguments)))
+}
+
+fn call_if(alloc: Global, condition: Expr, a: Expr, b: Expr) -> Result<Expr, NoMemory> {
+    let mut arguments = Vec::new(alloc);
+    arguments.push(condition)?;
+    arguments.push(a)?;
+    arguments.push(b)?;
+    Ok(Expr::Call(3, Function::If, Items::from_vec(arguments)))
+}
+
+fn assert_case(rt: &HostRuntime, i: usize, case: &Case, scope: &Sample) {
+    assert_eq!(rt; eval(rt.alloc(), &case.0, scope), case.1, "case {i}");
+}
+
+#[test]
+fn computes_numbers(rt: HostRuntime) -> Result<(), Fail> {
+    let alloc = rt.alloc();
+    let scope = sample(alloc)?;
+    let overflow = Err(Cause::Overflow);
+    let by_zero = Err(Cause::DivideByZero);
+    for (operator, a, b, expected) in [
+        (BinaryOp::Add, i64::MAX, -1, Ok(i64::MAX - 1)),
+        (BinaryOp::Add, i64::MAX, 1, overflow),
+        (BinaryOp::Sub, i64::MIN, -1, Ok(i64::MIN + 1)),
+        (BinaryOp::Sub, i64::MIN, 1, overflow),
+        (BinaryOp::Mul, 3_037_000_500, 3_037_000_500, overflow),
+        (BinaryOp::Mul, i64::MIN, -1, overflow),
+        (BinaryOp::Mul, -3, 4, Ok(-12)),
+        (BinaryOp::Div, -7, 2, Ok(-3)),
+        (BinaryOp::Div, 7, -2, Ok(-3)),
+        (BinaryOp::Div, i64::MIN, -1, overflow),
+        (BinaryOp::Div, 0, 0, by_zero),
+        (BinaryOp::Rem, -7, 2, Ok(-1)),
+        (BinaryOp::Rem, 7, -2, Ok(1)),
+        (BinaryOp::Rem, i64::MIN, -1, Ok(0)),
+        (BinaryOp::Rem, 7, 0, by_zero),
+    ] {
+        let e = binary(alloc, 3, operator, int(a), int(b))?;
+        let expected = match expected {
+            Ok(number) => Ok(Value::Int(number)),
+            Err(cause) => fault(cause, 3),
+        };
+        assert_eq!(rt; eval(alloc, &e, &scope), expected, "{operator:?} {a} {b}");
+    }
+    Ok(())
+}
+
+fn sample(alloc: Global) -> Result<Sample, NoMemory> {
+    let name = text(alloc, "ab")?;
+    Ok(Sample {
+        vertex: Row::two(Value::Int(40), name),
+        id: Vid(-5),
+        matched: true,
+    })
+}
+
+// Values of each kind, each list in ascending order.
+fn ascending(alloc: Global) -> Result<Vec<(Value, Value)>, NoMemory> {
+    let mut pairs = Vec::new(alloc);
+    pairs.push((Value::Int(-2), Value::Int(1)))?;
+    pairs.push((text(alloc, "ab")?, text(alloc, "b")?))?;
+    pairs.push((Value::Bool(false), Value::Bool(true)))?;
+    pairs.push((ids(alloc, &[1])?, ids(alloc, &[1, 2])?))?;
+    Ok(pairs)
+}
+
+fn assert_compares(
+    rt: &HostRuntime,
+    operator: BinaryOp,
+    pair: &(Value, Value),
+    expected: (bool, bool, bool),
+) -> Result<(), Fail> {
+    let alloc = rt.alloc();
+    let scope = sample(alloc)?;
+    let (a, b) = pair;
+    for (a, b, expected) in [(a, b, expected.0), (a, a, expected.1), (b, a, expected.2)] {
+        let e = binary(alloc, 3, operator, constant(a.copy()?), constant(b.copy()?))?;
+        assert_eq!(rt;
+            eval(alloc, &e, &scope)?,
+            Value::Bool(expected),
+            "{operator:?}"
+        );
+        assert_eq!(rt; truth(alloc, &e, &scope)?, expected, "{operator:?}");
+    }
+    Ok(())
+}
+
+#[test]
+fn compares_values(rt: HostRuntime) -> Result<(), Fail> {
+    for pair in ascending(rt.alloc())?.iter() {
+        assert_compares(&rt, BinaryOp::Eq, pair, (false, true, false))?;
+        assert_compares(&rt, BinaryOp::Ne, pair, (true, false, true))?;
+        assert_compares(&rt, BinaryOp::Lt, pair, (true, false, false))?;
+        assert_compares(&rt, BinaryOp::Le, pair, (true, true, false))?;
+        assert_compares(&rt, BinaryOp::Gt, pair, (false, false, true))?;
+        assert_compares(&rt, BinaryOp::Ge, pair, (false, true, true))?;
+    }
+    Ok(())
+}
+
+fn push_numbers(alloc: Global, cases: &mut Vec<Case>) -> Result<(), NoMemory> {
+    let minus = unary(alloc, UnaryOp::Neg, int(5))?;
+    cases.push((minus, Ok(Value::Int(-5))))?;
+    let minus = unary(alloc, UnaryOp::Neg, int(i64::MIN))?;
+    cases.push((minus, fault(Cause::Overflow, 3)))?;
+    let abs = call_one(alloc, Function::Abs, int(-5))?;
+    cases.push((abs, Ok(Value::Int(5))))?;
+    let abs = call_one(alloc, Function::Abs, int(i64::MIN))?;
+    cases.push((abs, fault(Cause::Overflow, 3)))?;
+    let not = unary(alloc, UnaryOp::Not, constant(Value::Bool(true)))?;
+    cases.push((not, Ok(Value::Bool(false))))?;
+    let len = call_one(alloc, Function::Len, constant(text(alloc, "äb")?))?;
+    cases.push((len, Ok(Value::Int(3))))?;
+    let len = call_one(alloc, Function::Len, constant(ids(alloc, &[2, 1, 2])?))?;
+    cases.push((len, Ok(Value::Int(3))))?;
+    let decimal = call_one(alloc, Function::Text, int(i64::MIN))?;
+    cases.push((decimal, Ok(text(alloc, "-9223372036854775808")?)))?;
+    Ok(())
+}
+
+fn push_lists(alloc: Global, cases: &mut Vec<Case>) -> Result<(), NoMemory> {
+    let none = Expr::Call(3, Function::Ids, Items::new(alloc));
+    cases.push((none, Ok(ids(alloc, &[])?)))?;
+    for (entries, entry, expected) in [
+        ([].as_slice(), 5, [5].as_slice()),
+        ([1, 3].as_slice(), 2, [1, 2, 3].as_slice()),
+        ([1, 3].as_slice(), 1, [1, 1, 3].as_slice()),
+        ([1, 3].as_slice(), i64::MAX, [1, 3, i64::MAX].as_slice()),
+    ] {
+        let add = call_two(
+            alloc,
+            Function::Add,
+            constant(ids(alloc, entries)?),
+            int(entry),
+        )?;
+        cases.push((add, Ok(ids(alloc, expected)?)))?;
+    }
+    for (entry, expected) in [(1, true), (3, true), (5, true), (4, false), (6, false)] {
+        let has = call_two(
+            alloc,
+            Function::Has,
+            constant(ids(alloc, &[1, 3, 5])?),
+            int(entry),
+        )?;
+        cases.push((has, Ok(Value::Bool(expected))))?;
+    }
+    for (function, expected) in [(Function::Min, "ab"), (Function::Max, "b")] {
+        let a = constant(text(alloc, "b")?);
+        let one = call_two(alloc, function, a, constant(text(alloc, "ab")?))?;
+        cases.push((one, Ok(text(alloc, expected)?)))?;
+    }
+    Ok(())
+}
+
+fn push_lazy(alloc: Global, cases: &mut Vec<Case>) -> Result<(), NoMemory> {
+    let stops = fault(Cause::DivideByZero, 7);
+    let yes = Value::Bool(true);
+    let no = Value::Bool(false);
+    let and = binary(alloc, 3, BinaryOp::And, constant(no), faulty_test(alloc)?)?;
+    cases.push((and, Ok(Value::Bool(false))))?;
+    let and = binary(alloc, 3, BinaryOp::And, constant(yes), faulty_test(alloc)?)?;
+    cases.push((and, stops))?;
+    let or = binary(
+        alloc,
+        3,
+        BinaryOp::Or,
+        constant(Value::Bool(true)),
+        faulty_test(alloc)?,
+    )?;
+    cases.push((or, Ok(Value::Bool(true))))?;
+    let or = binary(
+        alloc,
+        3,
+        BinaryOp::Or,
+        faulty_test(alloc)?,
+        constant(Value::Bool(true)),
+    )?;
+    cases.push((or, fault(Cause::DivideByZero, 7)))?;
+    let first = call_if(alloc, constant(Value::Bool(true)), int(1), faulty(alloc)?)?;
+    cases.push((first, Ok(Value::Int(1))))?;
+    let second = call_if(alloc, constant(Value::Bool(false)), faulty(alloc)?, int(2))?;
+    cases.push((second, Ok(Value::Int(2))))?;
+    let neither = call_if(alloc, faulty_test(alloc)?, int(1), int(2))?;
+    cases.push((neither, fault(Cause::DivideByZero, 7)))?;
+    let overflow = binary(alloc, 8, BinaryOp::Sub, int(i64::MIN), int(1))?;
+    let left = binary(alloc, 3, BinaryOp::Add, faulty(alloc)?, overflow)?;
+    cases.push((left, fault(Cause::DivideByZero, 7)))?;
+    Ok(())
+}
+
+fn push_reads(alloc: Global, cases: &mut Vec<Case>) -> Result<(), NoMemory> {
+    cases.push((Expr::Column(3, Side::Vertex, 0), Ok(Value::Int(40))))?;
+    cases.push((Expr::Column(3, Side::Vertex, 1), Ok(text(alloc, "ab")?)))?;
+    cases.push((Expr::Id(3, Side::Vertex), Ok(Value::Int(-5))))?;
+    cases.push((Expr::Matched(3), Ok(Value::Bool(true))))?;
+    let v = Expr::Column(9, Side::Vertex, 0);
+    let sum = binary(alloc, 3, BinaryOp::Add, v, Expr::Id(9, Side::Vertex))?;
+    cases.push((sum, Ok(Value::Int(35))))?;
+    Ok(())
+}
+
+#[test]
+fn computes_values(rt: HostRuntime) -> Result<(), Fail> {
+    let alloc = rt.alloc();
+    let scope = sample(alloc)?;
+    let mut cases = Vec::new(alloc);
+    push_numbers(alloc, &mut cases)?;
+    push_lists(alloc, &mut cases)?;
+    push_lazy(alloc, &mut cases)?;
+    push_reads(alloc, &mut cases)?;
+    for (i, case) in cases.iter().enumerate() {
+        assert_case(&rt, i, case, &scope);
+    }
+    Ok(())
+}
+
+// A text of `len` letters.
+fn letters(alloc: Global, len: usize) -> Result<Expr, NoMemory> {
+    let mut chars = String::new(alloc);
+    for _ in 0..len {
+        chars.push('a')?;
+    }
+    Ok(constant(Value::Text(Text::from_string(alloc, chars)?)))
+}
+
+#[test]
+fn keeps_texts_and_lists_within_bounds(rt: HostRuntime) -> Result<(), Fail> {
+    let alloc = rt.alloc();
+    let scope = sample(alloc)?;
+    let short = call_two(
+        alloc,
+        Function::Concat,
+        letters(alloc, 1_000)?,
+        letters(alloc, 24)?,
+    )?;
+    let length = call_one(alloc, Function::Len, short)?;
+    assert_eq!(rt; eval(alloc, &length, &scope), Ok(Value::Int(1_024)));
+    let long = call_two(
+        alloc,
+        Function::Concat,
+        letters(alloc, 1_000)?,
+        letters(alloc, 25)?,
+    )?;
+    assert_eq!(rt; eval(alloc, &long, &scope), fault(Cause::TextTooLong, 3));
+    let zeros = Vec::from_elem(alloc, 0i64, 999_999)?;
+    let most = constant(ids(alloc, zeros.as_slice())?);
+    let most = eval(
+        alloc,
+        &call_two(alloc, Function::Add, most, int(1))?,
+        &scope,
+    )?;
+    let length = call_one(alloc, Function::Len, constant(most.copy()?))?;
+    assert_eq!(rt; eval(alloc, &length, &scope), Ok(Value::Int(1_000_000)));
+    let long = call_two(alloc, Function::Add, constant(most), int(1))?;
+    assert_eq!(rt; eval(alloc, &long, &scope), fault(Cause::ListTooLong, 3));
+    Ok(())
+}
