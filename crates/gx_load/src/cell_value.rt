@@ -39,7 +39,8 @@ fn text_of_cell(alloc: Global, cell: &[u8]) -> Result<Text, CellStop>
     let Ok(text) = str::from_utf8(cell) else {
         return Err(CellStop::Refused(CellKind::NotText));
     };
-    if text.len() > MOST_TEXT_BYTES {
+    let len = text.len();
+    if len > MOST_TEXT_BYTES {
         return Err(CellStop::Refused(CellKind::TextTooLong));
     }
     Ok(Text::of(alloc, text)?)

@@ -1,12 +1,11 @@
 //! Files to rows.
 //!
-//! `read_all` reads a whole file from a source of files, up to a limit. `rows_of` turns the bytes
-//! of a CSV file into rows of a row type, and `edge_list_of` those of an edge list into edges, or
-//! each returns the first position that it refuses. `Loads` keeps the rows of each load statement.
-//! Which records a text has is defined by the crate `csv`; what a header, a cell and a line must be
-//! is defined in `specs/`. Contracts speak of bytes and of lists of rows. The crate depends on
-//! `gx_rows`, `gx_outside`, `csv` and `thiserror`, and the top call loads through it. It never sees
-//! a script, nor which of several rows of one identifier counts.
+//! `read_all` reads a whole file, up to a limit. `rows_of` turns a CSV file into rows of a row type,
+//! and `edge_list_of` an edge list into edges, or each returns the first position that it refuses.
+//! `Loads` keeps the rows of each load statement. Contracts speak of bytes and of lists of rows;
+//! `csv` defines which records a text has, and `specs/` what headers, cells and lines must be. The
+//! crate depends on `gx_rows`, `gx_outside`, `csv` and `thiserror`, and the top call loads through
+//! it. It never sees a script, nor which of several rows of one identifier counts.
 #![tactic(auto)]
 
 mod cell;
