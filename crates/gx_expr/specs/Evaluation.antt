@@ -242,6 +242,11 @@ number_result s e = eval_result s e >>= λ v. Ok (int_of v)
 abbrev pub truth_result : ScopeValues → Expr → Result Bool (Cause × ℕ)
 truth_result s e = eval_result s e >>= λ v. Ok (truth_of v)
 
+-- the values of expressions in order, or the fault of the first that has one
+abbrev pub row_result : ScopeValues → List Expr → Result (List Value) (Cause × ℕ)
+row_result s [] = Ok []
+row_result s (e ∷ es) = try_cons (eval_result s e) (row_result s es)
+
 -- the result of an expression, by those of its operands
 pub eval_result-roll : (s : ScopeValues) (x : Expr-F Expr)
     → eval_result s (roll-Expr x) ≡ eval_layer s (map-Expr Expr EvalResult (eval_result s) x)

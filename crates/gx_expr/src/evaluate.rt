@@ -11,7 +11,7 @@ use crate::arithmetic::arithmetic;
 use crate::expr::Expr;
 use crate::operations::{binary, call_none, call_one, call_two, decided_by_left, unary};
 use crate::operators::Function;
-use crate::parts::{number_of, truth_of};
+use crate::projections::{number_of, truth_of};
 use crate::scope::Scope;
 use gx_rows::{EvalStop, Value, Vid};
 use std::alloc::Global;

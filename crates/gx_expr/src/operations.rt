@@ -18,7 +18,7 @@ ghost use Rattle.gx_expr.specs.Evaluation.{
 use crate::arithmetic::{absolute, arithmetic, length_as_int, negated};
 use crate::functions::{add_entry, concat, decimal_text, has, no_ids};
 use crate::operators::{BinaryOp, Function, UnaryOp};
-use crate::parts::{entries_of, number_of, size_of_value, text_of, truth_of};
+use crate::projections::{entries_of, number_of, size_of_value, text_of, truth_of};
 use gx_rows::{EvalStop, Value};
 use std::alloc::Global;
 use std::borrow::Cow;
