@@ -18,7 +18,7 @@ use Rattle.gx_rows.specs.declared.value.Value.TheVariants as value
 use Rattle.gx_rows.specs.declared.value.ValueKind.{ValueKind}
 use Rattle.gx_rows.specs.declared.value.ValueKind.TheVariants as kind
 use Rattle.gx_rows.specs.declared.vid.Vid.{Vid}
-use Rattle.gx_expr.specs.Evaluation.{EvalResult, ScopeValues, arithmetic_result, at_node, binary_result, bounded_list, bounded_text, bytes_of, call_result, decided, entries_of, eval_binary, eval_call, eval_layer, eval_result, eval_result-roll, eval_right, eval_three, exact_int, id_value, int_of, int_result, magnitude, size_of, truth_of, unary_result, value_or_zero, with_entry}
+use Rattle.gx_expr.specs.Evaluation.{EvalResult, ScopeValues, arithmetic_result, at_node, binary_result, bounded_list, bounded_text, bytes_of, call_result, decided, ids_of, eval_binary, eval_call, eval_layer, eval_result, eval_result-roll, eval_right, eval_three, exact_int, id_value, int_of_value, int_result, absolute, size_of, truth_of_value, unary_result, value_or_zero, with_entry}
 use Rattle.gx_expr.specs.Typing.{ScopeType, all_some, kind_of_binary, kind_of_call, kind_of_expr, kind_of_expr-roll, kind_of_layer, kind_of_unary, of_alike, of_bools, of_ints}
 use Rattle.gx_expr.specs.declared.expr.Expr.{Expr, roll-Expr, map-Expr}
 use Rattle.gx_expr.specs.declared.expr.Expr.TheOpen.{Expr-F}
