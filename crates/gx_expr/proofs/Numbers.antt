@@ -1,9 +1,8 @@
 -- What the checked operations of std return is the exact number, if 64 bits have it.
-use Rattle.std.proofs.Common.{◌≡◌, ◌<◌, ◌^◌, ℤ, pos, negsuc, nat_lt, Bool, true, false, Option, None, Some, Ok, Err, Result, refl, int_div, w64, FitsSigned}
+use Rattle.std.proofs.Common.{◌≡◌, ◌^◌, ℤ, pos, negsuc, Bool, true, false, Option, None, Some, Ok, Err, refl, int_div, w64, FitsSigned}
 use Rattle.std.specs.Int.{CanDivide, IsNonZero}
 use Rattle.std.specs.Option.{SomeIff, ok_or}
 use Rattle.std.proofs.lemmas.Bool.{ltb-true, lt-ltb}
-use Rattle.gx_rows.specs.declared.cause.Cause.{Cause}
 use Rattle.gx_rows.specs.declared.cause.Cause.TheVariants as cause
 use Rattle.gx_expr.specs.Evaluation.{exact_int, fits_signed_64}
 

@@ -1,12 +1,10 @@
 -- A well-typed expression has a value of its kind.
-use Rattle.std.specs.Prelude.{◌≡◌, ℕ, ℤ, pos, neg_ℤ, Bool, true, false, if◌then◌else◌, nat_le, Option, None, Some, IsSome, is_some, Result, Ok, Err, IfOk, List, [], ◌∷◌, ◌++◌, length, map, flat_map, slice_get, All, ⊤, refl}
-use Rattle.std.proofs.Common.{subst, lit≤}
-use Rattle.std.proofs.lemmas.Bool.{leb-true}
-use Rattle.std.proofs.lemmas.List.Elements.{All-cons, All-head, All-nil, All-tail}
+use Rattle.std.specs.Prelude.{◌≡◌, ℕ, ℤ, pos, neg_ℤ, Bool, true, false, if◌then◌else◌, nat_le, Option, None, Some, Result, Ok, Err, IfOk, List, [], ◌∷◌, ◌++◌, length, map, slice_get, ⊤, refl}
+use Rattle.std.proofs.Common.{subst}
 use Rattle.std.specs.Fmt.{signed_decimal}
 use Rattle.std.specs.Ordering.{is_le}
 use Rattle.std.specs.Option.{option_and_then, option_map}
-use Rattle.gx_rows.specs.Bounds.{IsBoundedValue, MOST_LIST_ENTRIES, MOST_TEXT_BYTES}
+use Rattle.gx_rows.specs.Bounds.{MOST_LIST_ENTRIES, MOST_TEXT_BYTES}
 use Rattle.gx_rows.specs.Kinds.{kind_of}
 use Rattle.gx_rows.specs.Order.{value_cmp}
 use Rattle.gx_rows.specs.Results.{◌>>=◌}
@@ -24,14 +22,13 @@ use Rattle.gx_expr.specs.Typing.{ScopeType, all_some, kind_of_binary, kind_of_ca
 use Rattle.gx_expr.specs.declared.expr.Expr.{Expr, roll-Expr, map-Expr}
 use Rattle.gx_expr.specs.declared.expr.Expr.TheOpen.{Expr-F}
 use Rattle.gx_expr.specs.declared.expr.Expr.TheOpen as layer
-use Rattle.gx_expr.specs.declared.expr.Expr.TheFolds.{fold-Expr, fold-roll-Expr, ind-Expr}
+use Rattle.gx_expr.specs.declared.expr.Expr.TheFolds.{ind-Expr}
 use Rattle.gx_expr.specs.declared.operators.BinaryOp.{BinaryOp}
 use Rattle.gx_expr.specs.declared.operators.BinaryOp.TheVariants as binary
 use Rattle.gx_expr.specs.declared.operators.Function.{Function}
 use Rattle.gx_expr.specs.declared.operators.Function.TheVariants as function
 use Rattle.gx_expr.specs.declared.operators.UnaryOp.{UnaryOp}
 use Rattle.gx_expr.specs.declared.operators.UnaryOp.TheVariants as unary
-use Rattle.gx_expr.specs.declared.side.Side.{Side}
 use Rattle.gx_expr.specs.Soundness.{HasItsKind, Suits}
 
 -- the value of a result, if it has one, is of the kind, if there is one

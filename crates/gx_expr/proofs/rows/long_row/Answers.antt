@@ -1,4 +1,4 @@
-use Rattle.std.proofs.Common.{◌<◌, length, arith, rules}
+use Rattle.std.proofs.Common.{arith}
 use Rattle.gx_expr.proofs.ValueByValue.{row-more}
 use Rattle.gx_expr.proofs.rows.long_row.Goals as goal
 
