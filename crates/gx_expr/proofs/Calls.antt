@@ -6,7 +6,7 @@ use Rattle.gx_rows.specs.declared.eval_stop.EvalStop.{EvalStop}
 use Rattle.gx_rows.specs.declared.value.Value.TheVariants as value
 use Rattle.gx_rows.specs.Results.{◌>>=◌}
 use Rattle.gx_expr.specs.Evaluates.{EvaluatesTo}
-use Rattle.gx_expr.specs.Evaluation.{ScopeValues, EvalResult, arithmetic_result, at_node, eval_binary, eval_call, eval_result, eval_result-roll, int_of, int_result, is_arithmetic, number_result}
+use Rattle.gx_expr.specs.Evaluation.{ScopeValues, EvalResult, arithmetic_result, at_node, eval_binary, eval_call, eval_result, eval_result-roll, int_of_value, int_result, is_arithmetic, number_result}
 use Rattle.gx_expr.specs.declared.expr.Expr.{Expr}
 use Rattle.gx_expr.specs.declared.expr.Expr.TheOpen as layer
 use Rattle.gx_expr.specs.declared.expr.Expr.TheVariants as expr
@@ -28,7 +28,7 @@ eval_many s n f xs h =
     ∙ eval_result-roll s (layer.Call n f xs)
     ∙ many-none n f (map (eval_result s) xs) (simp length-map h)
 
-arithmetic-binary : (n : ℕ) (o : BinaryOp) → is_arithmetic o ≡ true → (r q : EvalResult) → eval_binary n o r q ≡ (r >>= λ x. q >>= λ y. at_node n (int_result (arithmetic_result o (int_of x) (int_of y))))
+arithmetic-binary : (n : ℕ) (o : BinaryOp) → is_arithmetic o ≡ true → (r q : EvalResult) → eval_binary n o r q ≡ (r >>= λ x. q >>= λ y. at_node n (int_result (arithmetic_result o (int_of_value x) (int_of_value y))))
 arithmetic-binary n o h (Err f) q = refl
 arithmetic-binary n binary.Add h (Ok x) q = refl
 arithmetic-binary n binary.Sub h (Ok x) q = refl
@@ -38,27 +38,27 @@ arithmetic-binary n binary.Rem h (Ok x) q = refl
 arithmetic-binary n _ h (Ok x) q = cc
 
 pub eval_arithmetic : (s : ScopeValues) (n : ℕ) (o : BinaryOp) (a b : Expr) → is_arithmetic o ≡ true
-    → eval_result s (expr.Binary n o a b) ≡ (eval_result s a >>= λ x. eval_result s b >>= λ y. at_node n (int_result (arithmetic_result o (int_of x) (int_of y))))
+    → eval_result s (expr.Binary n o a b) ≡ (eval_result s a >>= λ x. eval_result s b >>= λ y. at_node n (int_result (arithmetic_result o (int_of_value x) (int_of_value y))))
 eval_arithmetic s n o a b h =
     ap (eval_result s) (sym (rolls-Binary n o a b))
     ∙ eval_result-roll s (layer.Binary n o a b)
     ∙ arithmetic-binary n o h (eval_result s a) (eval_result s b)
 
-number-back : (n : ℕ) (r : Result ℤ Cause) → (at_node n (int_result r) >>= λ v. Ok (int_of v)) ≡ at_node n r
+number-back : (n : ℕ) (r : Result ℤ Cause) → (at_node n (int_result r) >>= λ v. Ok (int_of_value v)) ≡ at_node n r
 number-back n (Ok z) = refl
 number-back n (Err c) = refl
 
-arithmetic-number : (n : ℕ) (o : BinaryOp) (r q : EvalResult) (x y : ℤ) → (r >>= λ v. Ok (int_of v)) ≡ Ok x → (q >>= λ v. Ok (int_of v)) ≡ Ok y
-    → ((r >>= λ u. q >>= λ v. at_node n (int_result (arithmetic_result o (int_of u) (int_of v)))) >>= λ v. Ok (int_of v)) ≡ at_node n (arithmetic_result o x y)
+arithmetic-number : (n : ℕ) (o : BinaryOp) (r q : EvalResult) (x y : ℤ) → (r >>= λ v. Ok (int_of_value v)) ≡ Ok x → (q >>= λ v. Ok (int_of_value v)) ≡ Ok y
+    → ((r >>= λ u. q >>= λ v. at_node n (int_result (arithmetic_result o (int_of_value u) (int_of_value v)))) >>= λ v. Ok (int_of_value v)) ≡ at_node n (arithmetic_result o x y)
 arithmetic-number n o (Err f) q x y h k = cc
 arithmetic-number n o (Ok u) (Err f) x y h k = cc
 arithmetic-number n o (Ok u) (Ok v) x y h k =
-    let left : int_of u ≡ x = cc in
-    let right : int_of v ≡ y = cc in
-    number-back n (arithmetic_result o (int_of u) (int_of v)) ∙ rw (left, right) refl
+    let left : int_of_value u ≡ x = cc in
+    let right : int_of_value v ≡ y = cc in
+    number-back n (arithmetic_result o (int_of_value u) (int_of_value v)) ∙ rw (left, right) refl
 
 -- the number of an operation on numbers, from those of its operands
 pub evaluates_arithmetic : (s : ScopeValues) (n : ℕ) (o : BinaryOp) (a b : Expr) (x y : ℤ) (r : Result ℤ EvalStop) → is_arithmetic o ≡ true
     → number_result s a ≡ Ok x → number_result s b ≡ Ok y → EvaluatesTo r (at_node n (arithmetic_result o x y)) → EvaluatesTo r (number_result s (expr.Binary n o a b))
 evaluates_arithmetic s n o a b x y r arithmetic h k d =
-    subst (EvaluatesTo r) (sym (ap (λ v. v >>= λ v. Ok (int_of v)) (eval_arithmetic s n o a b arithmetic) ∙ arithmetic-number n o (eval_result s a) (eval_result s b) x y h k)) d
+    subst (EvaluatesTo r) (sym (ap (λ v. v >>= λ v. Ok (int_of_value v)) (eval_arithmetic s n o a b arithmetic) ∙ arithmetic-number n o (eval_result s a) (eval_result s b) x y h k)) d

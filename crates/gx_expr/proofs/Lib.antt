@@ -2,3 +2,4 @@ pub mod Calls
 pub mod Entries
 pub mod Numbers
 pub mod Results
+pub mod ValueByValue

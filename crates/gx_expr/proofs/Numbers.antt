@@ -1,17 +1,16 @@
 -- What the checked operations of std return is the exact number, if 64 bits have it.
-use Rattle.std.proofs.Common.{◌≡◌, ◌<◌, ◌^◌, ℤ, pos, negsuc, nat_lt, Bool, true, false, Option, None, Some, Ok, Err, Result, refl, int_div, w64, FitsSigned}
+use Rattle.std.proofs.Common.{◌≡◌, ◌^◌, ℤ, pos, negsuc, Bool, true, false, Option, None, Some, Ok, Err, refl, int_div, w64, FitsSigned}
 use Rattle.std.specs.Int.{CanDivide, IsNonZero}
 use Rattle.std.specs.Option.{SomeIff, ok_or}
 use Rattle.std.proofs.lemmas.Bool.{ltb-true, lt-ltb}
-use Rattle.gx_rows.specs.declared.cause.Cause.{Cause}
 use Rattle.gx_rows.specs.declared.cause.Cause.TheVariants as cause
-use Rattle.gx_expr.specs.Evaluation.{exact_int, fits_64_bits}
+use Rattle.gx_expr.specs.Evaluation.{exact_int, fits_signed_64}
 
-fits-true : (z : ℤ) → FitsSigned w64 z → fits_64_bits z ≡ true
+fits-true : (z : ℤ) → FitsSigned w64 z → fits_signed_64 z ≡ true
 fits-true (pos n) f = lt-ltb n (2 ^ 63) f.sfits
 fits-true (negsuc n) f = lt-ltb n (2 ^ 63) f.sfits
 
-true-fits : (z : ℤ) → fits_64_bits z ≡ true → FitsSigned w64 z
+true-fits : (z : ℤ) → fits_signed_64 z ≡ true → FitsSigned w64 z
 true-fits (pos n) e = record { sfits = ltb-true n (2 ^ 63) e }
 true-fits (negsuc n) e = record { sfits = ltb-true n (2 ^ 63) e }
 
@@ -19,9 +18,9 @@ pub exact_int-fits : (z : ℤ) → FitsSigned w64 z → exact_int z ≡ Ok z
 exact_int-fits z f = rw (fits-true z f) refl
 
 pub exact_int-unfit : (z : ℤ) → ¬ FitsSigned w64 z → exact_int z ≡ Err cause.Overflow
-exact_int-unfit z n = go (fits_64_bits z) refl
+exact_int-unfit z n = go (fits_signed_64 z) refl
   where
-    go : (b : Bool) → fits_64_bits z ≡ b → exact_int z ≡ Err cause.Overflow
+    go : (b : Bool) → fits_signed_64 z ≡ b → exact_int z ≡ Err cause.Overflow
     go true e = absurd (n (true-fits z e))
     go false e = rw e refl
 

@@ -4,8 +4,7 @@
 -- a result, so that a definition needs no premise: what a scope does not have counts as the number
 -- 0, and so does a call with a wrong number of arguments; an operand of a kind that an operation
 -- does not take counts as 0, false or empty. A well-typed expression meets none of these.
-use Rattle.std.specs.Prelude.{◌≡◌, ℕ, ◌≤◌, ◌^◌, ◌++◌, nat_lt, nat_le, ℤ, pos, negsuc, ◌+ℤ◌, ◌-ℤ◌, ◌*ℤ◌, neg_ℤ, unsigned_abs, int_le, int_div, int_rem, Bool, true, false, not, ◌&&◌, ◌||◌, if◌then◌else◌, Option, None, Some, Result, Ok, Err, List, [], ◌∷◌, length, slice_get, replicate, codes, refl}
-use Rattle.std.proofs.Common.{ap, ◌∙◌}
+use Rattle.std.specs.Prelude.{◌≡◌, ℕ, ◌^◌, ◌++◌, nat_lt, nat_le, ℤ, pos, negsuc, ◌+ℤ◌, ◌-ℤ◌, ◌*ℤ◌, neg_ℤ, unsigned_abs, int_le, int_div, int_rem, Bool, true, false, not, ◌&&◌, ◌||◌, if◌then◌else◌, Option, None, Some, Result, Ok, Err, List, [], ◌∷◌, length, slice_get, replicate, codes, refl}
 use Rattle.std.specs.Fmt.{signed_decimal}
 use Rattle.std.specs.List.{list_any}
 use Rattle.std.specs.Ordering.{int_eq, is_eq, is_ne, is_lt, is_le, is_gt, is_ge}
@@ -37,14 +36,14 @@ pub record ScopeValues : Type 0 where
   pub matched : Bool
 
 -- the number of a value
-abbrev pub int_of : Value → ℤ
-int_of (value.Int number) = number
-int_of _ = pos 0
+abbrev pub int_of_value : Value → ℤ
+int_of_value (value.Int number) = number
+int_of_value _ = pos 0
 
 -- the truth of a value
-abbrev pub truth_of : Value → Bool
-truth_of (value.Bool truth) = truth
-truth_of _ = false
+abbrev pub truth_of_value : Value → Bool
+truth_of_value (value.Bool truth) = truth
+truth_of_value _ = false
 
 -- the bytes of a text
 abbrev pub bytes_of : Value → List ℕ
@@ -52,20 +51,20 @@ bytes_of (value.Text bytes) = bytes
 bytes_of _ = []
 
 -- the entries of a list
-abbrev pub entries_of : Value → List ℤ
-entries_of (value.Ids ids) = ids
-entries_of _ = []
+abbrev pub ids_of : Value → List ℤ
+ids_of (value.Ids ids) = ids
+ids_of _ = []
 
 -- ---- operators on numbers
 
 -- a signed number of 64 bits
-abbrev pub fits_64_bits : ℤ → Bool
-fits_64_bits (pos n) = nat_lt n (2 ^ 63)
-fits_64_bits (negsuc n) = nat_lt n (2 ^ 63)
+abbrev pub fits_signed_64 : ℤ → Bool
+fits_signed_64 (pos n) = nat_lt n (2 ^ 63)
+fits_signed_64 (negsuc n) = nat_lt n (2 ^ 63)
 
 -- the exact number, if 64 bits have it
 abbrev pub exact_int : ℤ → Result ℤ Cause
-exact_int z = if fits_64_bits z then Ok z else Err cause.Overflow
+exact_int z = if fits_signed_64 z then Ok z else Err cause.Overflow
 
 -- truncated toward zero
 abbrev pub quotient : ℤ → ℤ → Result ℤ Cause
@@ -97,8 +96,8 @@ abbrev pub int_result : Result ℤ Cause → Result Value Cause
 int_result step = step >>= λ z. Ok (value.Int z)
 
 -- the absolute value
-abbrev pub magnitude : ℤ → ℤ
-magnitude z = pos (unsigned_abs z)
+abbrev pub absolute : ℤ → ℤ
+absolute z = pos (unsigned_abs z)
 
 -- ---- operators on values of any kind
 
@@ -146,30 +145,30 @@ has_entry ids z = list_any (λ x. int_eq x z) ids
 -- ---- operations, from the values of their operands
 
 abbrev pub unary_result : UnaryOp → Value → Result Value Cause
-unary_result unary.Neg a = int_result (exact_int (neg_ℤ (int_of a)))
-unary_result unary.Not a = Ok (value.Bool (not (truth_of a)))
+unary_result unary.Neg a = int_result (exact_int (neg_ℤ (int_of_value a)))
+unary_result unary.Not a = Ok (value.Bool (not (truth_of_value a)))
 
 abbrev pub binary_result : BinaryOp → Value → Value → Result Value Cause
-binary_result binary.Add a b = int_result (arithmetic_result binary.Add (int_of a) (int_of b))
-binary_result binary.Sub a b = int_result (arithmetic_result binary.Sub (int_of a) (int_of b))
-binary_result binary.Mul a b = int_result (arithmetic_result binary.Mul (int_of a) (int_of b))
-binary_result binary.Div a b = int_result (arithmetic_result binary.Div (int_of a) (int_of b))
-binary_result binary.Rem a b = int_result (arithmetic_result binary.Rem (int_of a) (int_of b))
-binary_result binary.And a b = Ok (value.Bool (truth_of a && truth_of b))
-binary_result binary.Or a b = Ok (value.Bool (truth_of a || truth_of b))
+binary_result binary.Add a b = int_result (arithmetic_result binary.Add (int_of_value a) (int_of_value b))
+binary_result binary.Sub a b = int_result (arithmetic_result binary.Sub (int_of_value a) (int_of_value b))
+binary_result binary.Mul a b = int_result (arithmetic_result binary.Mul (int_of_value a) (int_of_value b))
+binary_result binary.Div a b = int_result (arithmetic_result binary.Div (int_of_value a) (int_of_value b))
+binary_result binary.Rem a b = int_result (arithmetic_result binary.Rem (int_of_value a) (int_of_value b))
+binary_result binary.And a b = Ok (value.Bool (truth_of_value a && truth_of_value b))
+binary_result binary.Or a b = Ok (value.Bool (truth_of_value a || truth_of_value b))
 binary_result operator a b = Ok (value.Bool (comparison operator (value_cmp a b)))
 
 -- `if` is no part of it, since it does not evaluate all of its arguments
 abbrev pub call_result : Function → List Value → Result Value Cause
 call_result function.Min (a ∷ b ∷ []) = Ok (lesser a b)
 call_result function.Max (a ∷ b ∷ []) = Ok (greater a b)
-call_result function.Abs (a ∷ []) = int_result (exact_int (magnitude (int_of a)))
+call_result function.Abs (a ∷ []) = int_result (exact_int (absolute (int_of_value a)))
 call_result function.Len (a ∷ []) = int_result (exact_int (pos (size_of a)))
 call_result function.Concat (a ∷ b ∷ []) = bounded_text (bytes_of a ++ bytes_of b)
-call_result function.Text (a ∷ []) = bounded_text (signed_decimal (int_of a))
+call_result function.Text (a ∷ []) = bounded_text (signed_decimal (int_of_value a))
 call_result function.Ids [] = Ok (value.Ids [])
-call_result function.Add (a ∷ b ∷ []) = bounded_list (with_entry (entries_of a) (int_of b))
-call_result function.Has (a ∷ b ∷ []) = Ok (value.Bool (has_entry (entries_of a) (int_of b)))
+call_result function.Add (a ∷ b ∷ []) = bounded_list (with_entry (ids_of a) (int_of_value b))
+call_result function.Has (a ∷ b ∷ []) = Ok (value.Bool (has_entry (ids_of a) (int_of_value b)))
 call_result _ _ = Ok (value.Int (pos 0))
 
 -- ---- expressions
@@ -205,11 +204,11 @@ eval_right n operator x (Some truth) b = Ok (value.Bool truth)
 eval_right n operator x None b = b >>= λ y. at_node n (binary_result operator x y)
 
 abbrev pub eval_binary : ℕ → BinaryOp → EvalResult → EvalResult → EvalResult
-eval_binary n operator a b = a >>= λ x. eval_right n operator x (decided operator (truth_of x)) b
+eval_binary n operator a b = a >>= λ x. eval_right n operator x (decided operator (truth_of_value x)) b
 
 -- `if` evaluates its condition and one branch
 abbrev pub eval_three : Function → EvalResult → EvalResult → EvalResult → EvalResult
-eval_three function.If c a b = c >>= λ x. if truth_of x then a else b
+eval_three function.If c a b = c >>= λ x. if truth_of_value x then a else b
 eval_three _ c a b = Ok (value.Int (pos 0))
 
 -- all others evaluate their arguments from left to right
@@ -236,11 +235,16 @@ eval_result s e = fold-Expr EvalResult (eval_layer s) e
 
 -- the number of an expression, or its fault
 abbrev pub number_result : ScopeValues → Expr → Result ℤ (Cause × ℕ)
-number_result s e = eval_result s e >>= λ v. Ok (int_of v)
+number_result s e = eval_result s e >>= λ v. Ok (int_of_value v)
 
 -- the truth of a condition, or its fault
 abbrev pub truth_result : ScopeValues → Expr → Result Bool (Cause × ℕ)
-truth_result s e = eval_result s e >>= λ v. Ok (truth_of v)
+truth_result s e = eval_result s e >>= λ v. Ok (truth_of_value v)
+
+-- the values of expressions in order, or the fault of the first that has one
+abbrev pub row_result : ScopeValues → List Expr → Result (List Value) (Cause × ℕ)
+row_result s [] = Ok []
+row_result s (e ∷ es) = try_cons (eval_result s e) (row_result s es)
 
 -- the result of an expression, by those of its operands
 pub eval_result-roll : (s : ScopeValues) (x : Expr-F Expr)

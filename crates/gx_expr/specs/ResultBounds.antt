@@ -1,13 +1,11 @@
 -- Values within bounds give a value within bounds.
-use Rattle.std.specs.Prelude.{◌≡◌, ℕ, ℤ, pos, neg_ℤ, Bool, true, false, if◌then◌else◌, nat_le, Option, None, Some, IsSome, is_some, Result, Ok, Err, IfOk, List, [], ◌∷◌, ◌++◌, length, map, flat_map, slice_get, All, ⊤, refl}
+use Rattle.std.specs.Prelude.{◌≡◌, ℕ, ℤ, pos, neg_ℤ, Bool, true, false, if◌then◌else◌, nat_le, Option, None, Some, Result, Ok, Err, IfOk, List, [], ◌∷◌, ◌++◌, length, map, flat_map, slice_get, All, ⊤, refl}
 use Rattle.std.proofs.Common.{subst, lit≤}
 use Rattle.std.proofs.lemmas.Bool.{leb-true}
 use Rattle.std.proofs.lemmas.List.Elements.{All-cons, All-head, All-nil, All-tail}
 use Rattle.std.specs.Fmt.{signed_decimal}
 use Rattle.std.specs.Ordering.{is_le}
-use Rattle.std.specs.Option.{option_and_then, option_map}
-use Rattle.gx_rows.specs.Bounds.{IsBoundedValue, MOST_LIST_ENTRIES, MOST_TEXT_BYTES}
-use Rattle.gx_rows.specs.Kinds.{kind_of}
+use Rattle.gx_rows.specs.Bounds.{IsBoundedValue}
 use Rattle.gx_rows.specs.Order.{value_cmp}
 use Rattle.gx_rows.specs.Results.{◌>>=◌}
 use Rattle.gx_rows.specs.declared.cause.Cause.{Cause}
@@ -15,23 +13,19 @@ use Rattle.gx_rows.specs.declared.cause.Cause.TheVariants as cause
 use Rattle.gx_rows.specs.declared.eval_stop.EvalStop.{EvalStop}
 use Rattle.gx_rows.specs.declared.value.Value.{Value}
 use Rattle.gx_rows.specs.declared.value.Value.TheVariants as value
-use Rattle.gx_rows.specs.declared.value.ValueKind.{ValueKind}
-use Rattle.gx_rows.specs.declared.value.ValueKind.TheVariants as kind
 use Rattle.gx_rows.specs.declared.vid.Vid.{Vid}
 use Rattle.gx_expr.specs.Evaluates.{EvaluatesTo}
-use Rattle.gx_expr.specs.Evaluation.{EvalResult, ScopeValues, arithmetic_result, at_node, binary_result, bounded_list, bounded_text, bytes_of, call_result, decided, entries_of, eval_binary, eval_call, eval_layer, eval_result, eval_result-roll, eval_right, eval_three, exact_int, id_value, int_of, int_result, magnitude, size_of, truth_of, unary_result, value_or_zero, with_entry}
-use Rattle.gx_expr.specs.Typing.{ScopeType, all_some, kind_of_binary, kind_of_call, kind_of_expr, kind_of_expr-roll, kind_of_layer, kind_of_unary, of_alike, of_bools, of_ints}
+use Rattle.gx_expr.specs.Evaluation.{EvalResult, ScopeValues, arithmetic_result, at_node, binary_result, bounded_list, bounded_text, bytes_of, call_result, decided, ids_of, eval_binary, eval_call, eval_layer, eval_result, eval_result-roll, eval_right, eval_three, exact_int, id_value, int_of_value, int_result, absolute, size_of, truth_of_value, unary_result, value_or_zero, with_entry}
 use Rattle.gx_expr.specs.declared.expr.Expr.{Expr, roll-Expr, map-Expr}
 use Rattle.gx_expr.specs.declared.expr.Expr.TheOpen.{Expr-F}
 use Rattle.gx_expr.specs.declared.expr.Expr.TheOpen as layer
-use Rattle.gx_expr.specs.declared.expr.Expr.TheFolds.{fold-Expr, fold-roll-Expr, ind-Expr}
+use Rattle.gx_expr.specs.declared.expr.Expr.TheFolds.{ind-Expr}
 use Rattle.gx_expr.specs.declared.operators.BinaryOp.{BinaryOp}
 use Rattle.gx_expr.specs.declared.operators.BinaryOp.TheVariants as binary
 use Rattle.gx_expr.specs.declared.operators.Function.{Function}
 use Rattle.gx_expr.specs.declared.operators.Function.TheVariants as function
 use Rattle.gx_expr.specs.declared.operators.UnaryOp.{UnaryOp}
 use Rattle.gx_expr.specs.declared.operators.UnaryOp.TheVariants as unary
-use Rattle.gx_expr.specs.declared.side.Side.{Side}
 use Rattle.gx_expr.specs.Soundness.{IsBoundedResult, IsBoundedScope, constants_in, constants_in_layer, constants_in-roll}
 
 abbrev HasBoundedValue : EvalResult → Type 0
@@ -57,15 +51,15 @@ list-bounded n ids = go (nat_le (length ids) 1000000) refl
     go false e = tt
 
 unary-bounded : (n : ℕ) (o : UnaryOp) (x : Value) → HasBoundedValue (at_node n (unary_result o x))
-unary-bounded n unary.Neg x = int-bounded n (exact_int (neg_ℤ (int_of x)))
+unary-bounded n unary.Neg x = int-bounded n (exact_int (neg_ℤ (int_of_value x)))
 unary-bounded n unary.Not x = tt
 
 binary-bounded : (n : ℕ) (o : BinaryOp) (x y : Value) → HasBoundedValue (at_node n (binary_result o x y))
-binary-bounded n binary.Add x y = int-bounded n (arithmetic_result binary.Add (int_of x) (int_of y))
-binary-bounded n binary.Sub x y = int-bounded n (arithmetic_result binary.Sub (int_of x) (int_of y))
-binary-bounded n binary.Mul x y = int-bounded n (arithmetic_result binary.Mul (int_of x) (int_of y))
-binary-bounded n binary.Div x y = int-bounded n (arithmetic_result binary.Div (int_of x) (int_of y))
-binary-bounded n binary.Rem x y = int-bounded n (arithmetic_result binary.Rem (int_of x) (int_of y))
+binary-bounded n binary.Add x y = int-bounded n (arithmetic_result binary.Add (int_of_value x) (int_of_value y))
+binary-bounded n binary.Sub x y = int-bounded n (arithmetic_result binary.Sub (int_of_value x) (int_of_value y))
+binary-bounded n binary.Mul x y = int-bounded n (arithmetic_result binary.Mul (int_of_value x) (int_of_value y))
+binary-bounded n binary.Div x y = int-bounded n (arithmetic_result binary.Div (int_of_value x) (int_of_value y))
+binary-bounded n binary.Rem x y = int-bounded n (arithmetic_result binary.Rem (int_of_value x) (int_of_value y))
 binary-bounded n _ x y = tt
 
 right-bounded : (n : ℕ) (o : BinaryOp) (x : Value) (truth : Option Bool) (r : EvalResult) → HasBoundedValue (eval_right n o x truth r)
@@ -78,9 +72,9 @@ call_none-bounded n function.Ids = lit≤ tt
 call_none-bounded n _ = tt
 
 call_one-bounded : (n : ℕ) (f : Function) (x : Value) → HasBoundedValue (at_node n (call_result f (x ∷ [])))
-call_one-bounded n function.Abs x = int-bounded n (exact_int (magnitude (int_of x)))
+call_one-bounded n function.Abs x = int-bounded n (exact_int (absolute (int_of_value x)))
 call_one-bounded n function.Len x = int-bounded n (exact_int (pos (size_of x)))
-call_one-bounded n function.Text x = text-bounded n (signed_decimal (int_of x))
+call_one-bounded n function.Text x = text-bounded n (signed_decimal (int_of_value x))
 call_one-bounded n _ x = tt
 
 call_two-bounded : (n : ℕ) (f : Function) (x y : Value) → IsBoundedValue x → IsBoundedValue y → HasBoundedValue (at_node n (call_result f (x ∷ y ∷ [])))
@@ -95,7 +89,7 @@ call_two-bounded n function.Max x y h k = pick (is_le (value_cmp x y))
     pick true = k
     pick false = h
 call_two-bounded n function.Concat x y h k = text-bounded n (bytes_of x ++ bytes_of y)
-call_two-bounded n function.Add x y h k = list-bounded n (with_entry (entries_of x) (int_of y))
+call_two-bounded n function.Add x y h k = list-bounded n (with_entry (ids_of x) (int_of_value y))
 call_two-bounded n _ x y h k = tt
 
 eval_call-bounded : (n : ℕ) (f : Function) (rs : List EvalResult) → All HasBoundedValue rs → HasBoundedValue (eval_call n f rs)
@@ -115,7 +109,7 @@ eval_call-bounded n f (p ∷ r ∷ q ∷ []) all =
     pick false h k = k
 
     three : (f : Function) (p : EvalResult) → HasBoundedValue r → HasBoundedValue q → HasBoundedValue (eval_three f p r q)
-    three function.If (Ok x) h k = pick (truth_of x) h k
+    three function.If (Ok x) h k = pick (truth_of_value x) h k
     three function.If (Err e) h k = tt
     three _ p h k = tt
 eval_call-bounded n f (a ∷ b ∷ c ∷ d ∷ rs) all = tt
@@ -148,7 +142,7 @@ module _ (s : ScopeValues) (bounded : IsBoundedScope s) where
   unary_layer-bounded n o (Err f) = tt
 
   binary_layer-bounded : (n : ℕ) (o : BinaryOp) (r q : EvalResult) → HasBoundedValue (eval_binary n o r q)
-  binary_layer-bounded n o (Ok x) q = right-bounded n o x (decided o (truth_of x)) q
+  binary_layer-bounded n o (Ok x) q = right-bounded n o x (decided o (truth_of_value x)) q
   binary_layer-bounded n o (Err f) q = tt
 
   operands-bounded : (ys : List BoundedOperand) → All IsBoundedValue (flat_map (λ x. x) (map constants_in (map (λ y. y.0) ys))) → All HasBoundedValue (map (eval_result s) (map (λ y. y.0) ys))

@@ -1,12 +1,10 @@
 -- A well-typed expression has a value of its kind.
-use Rattle.std.specs.Prelude.{◌≡◌, ℕ, ℤ, pos, neg_ℤ, Bool, true, false, if◌then◌else◌, nat_le, Option, None, Some, IsSome, is_some, Result, Ok, Err, IfOk, List, [], ◌∷◌, ◌++◌, length, map, flat_map, slice_get, All, ⊤, refl}
-use Rattle.std.proofs.Common.{subst, lit≤}
-use Rattle.std.proofs.lemmas.Bool.{leb-true}
-use Rattle.std.proofs.lemmas.List.Elements.{All-cons, All-head, All-nil, All-tail}
+use Rattle.std.specs.Prelude.{◌≡◌, ℕ, ℤ, pos, neg_ℤ, Bool, true, false, if◌then◌else◌, nat_le, Option, None, Some, Result, Ok, Err, IfOk, List, [], ◌∷◌, ◌++◌, length, map, slice_get, ⊤, refl}
+use Rattle.std.proofs.Common.{subst}
 use Rattle.std.specs.Fmt.{signed_decimal}
 use Rattle.std.specs.Ordering.{is_le}
 use Rattle.std.specs.Option.{option_and_then, option_map}
-use Rattle.gx_rows.specs.Bounds.{IsBoundedValue, MOST_LIST_ENTRIES, MOST_TEXT_BYTES}
+use Rattle.gx_rows.specs.Bounds.{MOST_LIST_ENTRIES, MOST_TEXT_BYTES}
 use Rattle.gx_rows.specs.Kinds.{kind_of}
 use Rattle.gx_rows.specs.Order.{value_cmp}
 use Rattle.gx_rows.specs.Results.{◌>>=◌}
@@ -19,19 +17,18 @@ use Rattle.gx_rows.specs.declared.value.ValueKind.{ValueKind}
 use Rattle.gx_rows.specs.declared.value.ValueKind.TheVariants as kind
 use Rattle.gx_rows.specs.declared.vid.Vid.{Vid}
 use Rattle.gx_expr.specs.Evaluates.{EvaluatesTo}
-use Rattle.gx_expr.specs.Evaluation.{EvalResult, ScopeValues, arithmetic_result, at_node, binary_result, bounded_list, bounded_text, bytes_of, call_result, decided, entries_of, eval_binary, eval_call, eval_layer, eval_result, eval_result-roll, eval_right, eval_three, exact_int, id_value, int_of, int_result, magnitude, size_of, truth_of, unary_result, value_or_zero, with_entry}
+use Rattle.gx_expr.specs.Evaluation.{EvalResult, ScopeValues, arithmetic_result, at_node, binary_result, bounded_list, bounded_text, bytes_of, call_result, decided, ids_of, eval_binary, eval_call, eval_layer, eval_result, eval_result-roll, eval_right, eval_three, exact_int, id_value, int_of_value, int_result, absolute, size_of, truth_of_value, unary_result, value_or_zero, with_entry}
 use Rattle.gx_expr.specs.Typing.{ScopeType, all_some, kind_of_binary, kind_of_call, kind_of_expr, kind_of_expr-roll, kind_of_layer, kind_of_unary, of_alike, of_bools, of_ints}
 use Rattle.gx_expr.specs.declared.expr.Expr.{Expr, roll-Expr, map-Expr}
 use Rattle.gx_expr.specs.declared.expr.Expr.TheOpen.{Expr-F}
 use Rattle.gx_expr.specs.declared.expr.Expr.TheOpen as layer
-use Rattle.gx_expr.specs.declared.expr.Expr.TheFolds.{fold-Expr, fold-roll-Expr, ind-Expr}
+use Rattle.gx_expr.specs.declared.expr.Expr.TheFolds.{ind-Expr}
 use Rattle.gx_expr.specs.declared.operators.BinaryOp.{BinaryOp}
 use Rattle.gx_expr.specs.declared.operators.BinaryOp.TheVariants as binary
 use Rattle.gx_expr.specs.declared.operators.Function.{Function}
 use Rattle.gx_expr.specs.declared.operators.Function.TheVariants as function
 use Rattle.gx_expr.specs.declared.operators.UnaryOp.{UnaryOp}
 use Rattle.gx_expr.specs.declared.operators.UnaryOp.TheVariants as unary
-use Rattle.gx_expr.specs.declared.side.Side.{Side}
 use Rattle.gx_expr.specs.Soundness.{HasItsKind, Suits}
 
 -- the value of a result, if it has one, is of the kind, if there is one
@@ -89,17 +86,17 @@ alike-have_one a b r q true h k = alike-have a b a r h
 alike-have_one a b r q false h k = alike-have_right a b q k
 
 unary-has : (n : ℕ) (o : UnaryOp) (x : Value) (a : ValueKind) → HasKind (kind_of_unary o a) (at_node n (unary_result o x))
-unary-has n unary.Neg x kind.Int = int-has n (exact_int (neg_ℤ (int_of x)))
+unary-has n unary.Neg x kind.Int = int-has n (exact_int (neg_ℤ (int_of_value x)))
 unary-has n unary.Neg x _ = tt
 unary-has n unary.Not x kind.Bool = refl
 unary-has n unary.Not x _ = tt
 
 binary-has : (n : ℕ) (o : BinaryOp) (x y : Value) (a b : ValueKind) → HasKind (kind_of_binary o a b) (at_node n (binary_result o x y))
-binary-has n binary.Add x y a b = ints-have a b kind.Int (at_node n (binary_result binary.Add x y)) (int-has n (arithmetic_result binary.Add (int_of x) (int_of y)))
-binary-has n binary.Sub x y a b = ints-have a b kind.Int (at_node n (binary_result binary.Sub x y)) (int-has n (arithmetic_result binary.Sub (int_of x) (int_of y)))
-binary-has n binary.Mul x y a b = ints-have a b kind.Int (at_node n (binary_result binary.Mul x y)) (int-has n (arithmetic_result binary.Mul (int_of x) (int_of y)))
-binary-has n binary.Div x y a b = ints-have a b kind.Int (at_node n (binary_result binary.Div x y)) (int-has n (arithmetic_result binary.Div (int_of x) (int_of y)))
-binary-has n binary.Rem x y a b = ints-have a b kind.Int (at_node n (binary_result binary.Rem x y)) (int-has n (arithmetic_result binary.Rem (int_of x) (int_of y)))
+binary-has n binary.Add x y a b = ints-have a b kind.Int (at_node n (binary_result binary.Add x y)) (int-has n (arithmetic_result binary.Add (int_of_value x) (int_of_value y)))
+binary-has n binary.Sub x y a b = ints-have a b kind.Int (at_node n (binary_result binary.Sub x y)) (int-has n (arithmetic_result binary.Sub (int_of_value x) (int_of_value y)))
+binary-has n binary.Mul x y a b = ints-have a b kind.Int (at_node n (binary_result binary.Mul x y)) (int-has n (arithmetic_result binary.Mul (int_of_value x) (int_of_value y)))
+binary-has n binary.Div x y a b = ints-have a b kind.Int (at_node n (binary_result binary.Div x y)) (int-has n (arithmetic_result binary.Div (int_of_value x) (int_of_value y)))
+binary-has n binary.Rem x y a b = ints-have a b kind.Int (at_node n (binary_result binary.Rem x y)) (int-has n (arithmetic_result binary.Rem (int_of_value x) (int_of_value y)))
 binary-has n binary.And x y a b = bools-have a b kind.Bool (at_node n (binary_result binary.And x y)) refl
 binary-has n binary.Or x y a b = bools-have a b kind.Bool (at_node n (binary_result binary.Or x y)) refl
 binary-has n o x y a b = alike-have a b kind.Bool (at_node n (binary_result o x y)) refl
@@ -119,19 +116,19 @@ eval_binary-has : (n : ℕ) (o : BinaryOp) (a b : Option ValueKind) (r q : EvalR
 eval_binary-has n o None b r q = tt
 eval_binary-has n o (Some a) None r q = tt
 eval_binary-has n o (Some a) (Some b) (Err f) q = fault-has (kind_of_binary o a b) f
-eval_binary-has n o (Some a) (Some b) (Ok x) q = right-has n o x a b (truth_of x) q
+eval_binary-has n o (Some a) (Some b) (Ok x) q = right-has n o x a b (truth_of_value x) q
 
 -- the kind of a call with these kinds of arguments, each of which there may not be
 abbrev call_kind : Function → List (Option ValueKind) → Option ValueKind
 call_kind f os = option_and_then (kind_of_call f) (all_some os)
 
 one-has : (n : ℕ) (f : Function) (a : ValueKind) (x : Value) → HasKind (kind_of_call f (a ∷ [])) (at_node n (call_result f (x ∷ [])))
-one-has n function.Abs kind.Int x = int-has n (exact_int (magnitude (int_of x)))
+one-has n function.Abs kind.Int x = int-has n (exact_int (absolute (int_of_value x)))
 one-has n function.Abs _ x = tt
 one-has n function.Len kind.Text x = int-has n (exact_int (pos (size_of x)))
 one-has n function.Len kind.Ids x = int-has n (exact_int (pos (size_of x)))
 one-has n function.Len _ x = tt
-one-has n function.Text kind.Int x = text-has n (signed_decimal (int_of x))
+one-has n function.Text kind.Int x = text-has n (signed_decimal (int_of_value x))
 one-has n function.Text _ x = tt
 one-has n function.If kind.Bool x = tt
 one-has n function.Concat kind.Text x = tt
@@ -153,7 +150,7 @@ two-has n function.Max a b x y h k = pick (is_le (value_cmp x y))
 two-has n function.Concat kind.Text kind.Text x y h k = text-has n (bytes_of x ++ bytes_of y)
 two-has n function.Concat kind.Text _ x y h k = tt
 two-has n function.Concat _ _ x y h k = tt
-two-has n function.Add kind.Ids kind.Int x y h k = list-has n (with_entry (entries_of x) (int_of y))
+two-has n function.Add kind.Ids kind.Int x y h k = list-has n (with_entry (ids_of x) (int_of_value y))
 two-has n function.Add kind.Ids _ x y h k = tt
 two-has n function.Add _ _ x y h k = tt
 two-has n function.Has kind.Ids kind.Int x y h k = refl
@@ -167,7 +164,7 @@ two-has n function.Text kind.Int _ x y h k = tt
 two-has n _ _ _ x y h k = tt
 
 three-has : (n : ℕ) (f : Function) (c a b : ValueKind) (p r q : EvalResult) → HasKind (Some a) r → HasKind (Some b) q → HasKind (kind_of_call f (c ∷ a ∷ b ∷ [])) (eval_three f p r q)
-three-has n function.If kind.Bool a b (Ok x) r q h k = alike-have_one a b r q (truth_of x) h k
+three-has n function.If kind.Bool a b (Ok x) r q h k = alike-have_one a b r q (truth_of_value x) h k
 three-has n function.If kind.Bool a b (Err f) r q h k = fault-has (of_alike a b a) f
 three-has n function.Min c a b p r q h k = tt
 three-has n function.Max c a b p r q h k = tt

@@ -8,7 +8,7 @@ ghost use Rattle.gx_expr.specs.Evaluation.{
   arithmetic_result,
   at_node,
   exact_int,
-  magnitude,
+  absolute,
   quotient,
   remainder,
 };
@@ -111,8 +111,8 @@ pub(crate) fn negated(n: u32, a: i64) -> Result<i64, EvalStop>
 ///
 /// `Overflow` for the least number.
 #[tactic(auto, using(crate::proofs::Numbers::checked))]
-pub(crate) fn absolute(n: u32, a: i64) -> Result<i64, EvalStop>
-    ensures { EvaluatesTo result (at_node n (exact_int (magnitude a))) }
+pub(crate) fn magnitude_of(n: u32, a: i64) -> Result<i64, EvalStop>
+    ensures { EvaluatesTo result (at_node n (exact_int (absolute a))) }
 {
     or_overflow(n, a.checked_abs())
 }

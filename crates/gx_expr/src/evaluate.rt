@@ -4,14 +4,14 @@ ghost use Rattle.std.specs.Prelude.{◌≡◌, IfOk};
 ghost use Rattle.std.specs.Cow.{cow_value};
 ghost use Rattle.std.specs.Option.{option_copied};
 ghost use Rattle.gx_expr.specs.Evaluates.{EvaluatesTo, EvaluatesToCow};
-ghost use Rattle.gx_expr.specs.Evaluation.{eval_result, id_value, int_of, number_result, truth_result, value_or_zero};
+ghost use Rattle.gx_expr.specs.Evaluation.{eval_result, id_value, int_of_value, number_result, truth_result, value_or_zero};
 ghost use Rattle.gx_expr.specs.Soundness.{HasItsKind, IsBoundedResult};
 
 use crate::arithmetic::arithmetic;
 use crate::expr::Expr;
 use crate::operations::{binary, call_none, call_one, call_two, decided_by_left, unary};
 use crate::operators::Function;
-use crate::parts::{number_of, truth_of};
+use crate::projections::{number_of, truth_of};
 use crate::scope::Scope;
 use gx_rows::{EvalStop, Value, Vid};
 use std::alloc::Global;
@@ -39,7 +39,7 @@ fn id_as_value(id: Option<Vid>) -> Value
 
 // The number of a column; 0 if the scope does not have it.
 fn column_number(value: Option<&Value>) -> i64
-    ensures { result ≡ int_of (value_or_zero (option_copied value.entry)) }
+    ensures { result ≡ int_of_value (value_or_zero (option_copied value.entry)) }
 {
     match value {
         Some(value) => number_of(value),

@@ -1,9 +1,11 @@
-//! Expressions: their numbered trees, and what they evaluate to on a row.
+//! Expressions: their numbered trees, their kinds, and what they evaluate to on one row.
 //!
-//! An expression has names no more: sides and columns are what they stand for, and each node has
-//! its number in the statement. The crate depends on `gx_rows` for values, and on the kit's
-//! `sqlite_items`, through which a tree may hold trees. The type checker makes these trees, and
-//! kernels evaluate them; the crate sees neither a script nor a partition.
+//! An expression has no names any more: sides and columns are what they stand for, and each node
+//! has its number in the statement. A `Scope` lends the values that an expression reads; contracts
+//! see it as a `ScopeValues`, and a result as a fold over the tree. The crate depends on `gx_rows`
+//! for values, on the kit's `sqlite_items`, through which a tree may contain trees, and on `itoa`.
+//! The type checker makes these trees, and kernels evaluate them. The crate sees neither a script
+//! nor a partition.
 #![tactic(auto)]
 
 mod arithmetic;
@@ -12,7 +14,8 @@ mod expr;
 mod functions;
 mod operations;
 mod operators;
-mod parts;
+mod projections;
+mod rows;
 mod scope;
 mod side;
 #[cfg(test)]
@@ -21,5 +24,6 @@ mod tests;
 pub use evaluate::{eval, truth};
 pub use expr::Expr;
 pub use operators::{BinaryOp, Function, UnaryOp};
+pub use rows::eval_row;
 pub use scope::Scope;
 pub use side::Side;

@@ -15,10 +15,10 @@ ghost use Rattle.gx_expr.specs.Evaluation.{
   unary_result,
 };
 
-use crate::arithmetic::{absolute, arithmetic, length_as_int, negated};
+use crate::arithmetic::{arithmetic, length_as_int, magnitude_of, negated};
 use crate::functions::{add_entry, concat, decimal_text, has, no_ids};
 use crate::operators::{BinaryOp, Function, UnaryOp};
-use crate::parts::{entries_of, number_of, size_of_value, text_of, truth_of};
+use crate::projections::{entries_of, number_of, size_of_value, text_of, truth_of};
 use gx_rows::{EvalStop, Value};
 use std::alloc::Global;
 use std::borrow::Cow;
@@ -110,7 +110,7 @@ pub(crate) fn call_one(
     ensures { EvaluatesTo result (at_node n (call_result function (a.now ∷ []))) }
 {
     match function {
-        Function::Abs => Ok(Value::Int(absolute(n, number_of(a))?)),
+        Function::Abs => Ok(Value::Int(magnitude_of(n, number_of(a))?)),
         Function::Len => Ok(Value::Int(length_as_int(n, size_of_value(a))?)),
         Function::Text => decimal_text(alloc, n, number_of(a)),
         _ => Ok(Value::Int(0)),

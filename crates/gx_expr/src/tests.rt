@@ -4,14 +4,16 @@
 ghost use Rattle.std.specs.Prelude.{[], None, Some};
 ghost use Rattle.gx_expr.specs.declared.side.Side.TheVariants.{Vertex};
 
-use crate::{BinaryOp, Expr, Function, Scope, Side, UnaryOp, eval, truth};
+use crate::{BinaryOp, Expr, Function, Scope, Side, UnaryOp, eval, eval_row, truth};
 use gx_rows::{Cause, EvalStop, IdList, NoMemory, Row, Text, Value, Vid};
 use sqlite_items::{Boxed, Items};
 use std::alloc::Global;
+use std::process::Abort;
 use std::test::Fail;
 
 type Case = (Expr, Result<Value, EvalStop>);
 
+#[derive(Drop)]
 struct Sample {
     vertex: Row,
     id: Vid,
@@ -106,14 +108,14 @@ fn call_if(alloc: Global, condition: Expr, a: Expr, b: Expr) -> Result<Expr, NoM
     Ok(Expr::Call(3, Function::If, Items::from_vec(arguments)))
 }
 
-fn assert_case(rt: &HostRuntime, i: usize, case: &Case, scope: &Sample) {
-    assert_eq!(rt; eval(rt.alloc(), &case.0, scope), case.1, "case {i}");
+fn assert_case(rt: &impl Abort, alloc: Global, i: usize, case: &Case, scope: &Sample) {
+    assert_eq!(rt; eval(alloc, &case.0, scope), case.1, "case {i}");
 }
 
 #[test]
 fn computes_numbers(rt: HostRuntime) -> Result<(), Fail> {
     let alloc = rt.alloc();
-    let scope = sample(alloc)?;
+    let scope = test_scope(alloc)?;
     let overflow = Err(Cause::Overflow);
     let by_zero = Err(Cause::DivideByZero);
     for (operator, a, b, expected) in [
@@ -143,7 +145,7 @@ fn computes_numbers(rt: HostRuntime) -> Result<(), Fail> {
     Ok(())
 }
 
-fn sample(alloc: Global) -> Result<Sample, NoMemory> {
+fn test_scope(alloc: Global) -> Result<Sample, NoMemory> {
     let name = text(alloc, "ab")?;
     Ok(Sample {
         vertex: Row::two(Value::Int(40), name),
@@ -163,35 +165,36 @@ fn ascending(alloc: Global) -> Result<Vec<(Value, Value)>, NoMemory> {
 }
 
 fn assert_compares(
-    rt: &HostRuntime,
+    rt: &impl Abort,
+    alloc: Global,
     operator: BinaryOp,
     pair: &(Value, Value),
     expected: (bool, bool, bool),
-) -> Result<(), Fail> {
-    let alloc = rt.alloc();
-    let scope = sample(alloc)?;
+) -> Result<(), NoMemory> {
+    let scope = test_scope(alloc)?;
     let (a, b) = pair;
-    for (a, b, expected) in [(a, b, expected.0), (a, a, expected.1), (b, a, expected.2)] {
+    for (a, b, holds) in [(a, b, expected.0), (a, a, expected.1), (b, a, expected.2)] {
         let e = binary(alloc, 3, operator, constant(a.copy()?), constant(b.copy()?))?;
         assert_eq!(rt;
-            eval(alloc, &e, &scope)?,
-            Value::Bool(expected),
+            eval(alloc, &e, &scope),
+            Ok(Value::Bool(holds)),
             "{operator:?}"
         );
-        assert_eq!(rt; truth(alloc, &e, &scope)?, expected, "{operator:?}");
+        assert_eq!(rt; truth(alloc, &e, &scope), Ok(holds), "{operator:?}");
     }
     Ok(())
 }
 
 #[test]
 fn compares_values(rt: HostRuntime) -> Result<(), Fail> {
-    for pair in ascending(rt.alloc())?.iter() {
-        assert_compares(&rt, BinaryOp::Eq, pair, (false, true, false))?;
-        assert_compares(&rt, BinaryOp::Ne, pair, (true, false, true))?;
-        assert_compares(&rt, BinaryOp::Lt, pair, (true, false, false))?;
-        assert_compares(&rt, BinaryOp::Le, pair, (true, true, false))?;
-        assert_compares(&rt, BinaryOp::Gt, pair, (false, false, true))?;
-        assert_compares(&rt, BinaryOp::Ge, pair, (false, true, true))?;
+    let alloc = rt.alloc();
+    for pair in ascending(alloc)?.iter() {
+        assert_compares(&rt, alloc, BinaryOp::Eq, pair, (false, true, false))?;
+        assert_compares(&rt, alloc, BinaryOp::Ne, pair, (true, false, true))?;
+        assert_compares(&rt, alloc, BinaryOp::Lt, pair, (true, false, false))?;
+        assert_compares(&rt, alloc, BinaryOp::Le, pair, (true, true, false))?;
+        assert_compares(&rt, alloc, BinaryOp::Gt, pair, (false, false, true))?;
+        assert_compares(&rt, alloc, BinaryOp::Ge, pair, (false, true, true))?;
     }
     Ok(())
 }
@@ -300,14 +303,45 @@ fn push_reads(alloc: Global, cases: &mut Vec<Case>) -> Result<(), NoMemory> {
 #[test]
 fn computes_values(rt: HostRuntime) -> Result<(), Fail> {
     let alloc = rt.alloc();
-    let scope = sample(alloc)?;
+    let scope = test_scope(alloc)?;
     let mut cases = Vec::new(alloc);
     push_numbers(alloc, &mut cases)?;
     push_lists(alloc, &mut cases)?;
     push_lazy(alloc, &mut cases)?;
     push_reads(alloc, &mut cases)?;
     for (i, case) in cases.iter().enumerate() {
-        assert_case(&rt, i, case, &scope);
+        assert_case(&rt, alloc, i, case, &scope);
+    }
+    Ok(())
+}
+
+// The expressions `v.0`, `v.1`, `v.0`, .., of which there are `len`.
+fn columns(alloc: Global, len: u32) -> Result<Vec<Expr>, NoMemory> {
+    let mut exprs = Vec::new(alloc);
+    for i in 0..len {
+        exprs.push(Expr::Column(i, Side::Vertex, i % 2))?;
+    }
+    Ok(exprs)
+}
+
+fn row_of(alloc: Global, exprs: Vec<Expr>, scope: &Sample) -> Result<Row, EvalStop> {
+    if exprs.len() < 100 {
+        eval_row(alloc, exprs.as_slice(), scope)
+    } else {
+        Err(EvalStop::NoMemory)
+    }
+}
+
+#[test]
+fn makes_rows(rt: HostRuntime) -> Result<(), Fail> {
+    let alloc = rt.alloc();
+    let scope = test_scope(alloc)?;
+    for len in [0, 1, 2, 3, 16] {
+        let row = row_of(alloc, columns(alloc, len)?, &scope)?;
+        assert_eq!(rt; row.len(), len);
+        for i in 0..len {
+            assert_eq!(rt; row.get(i), scope.vertex.get(i % 2), "value {i} of {len}");
+        }
     }
     Ok(())
 }
@@ -321,35 +355,55 @@ fn letters(alloc: Global, len: usize) -> Result<Expr, NoMemory> {
     Ok(constant(Value::Text(Text::from_string(alloc, chars)?)))
 }
 
+// A text of 1,000 letters and of `len` more.
+fn joined(alloc: Global, len: usize) -> Result<Expr, NoMemory> {
+    call_two(
+        alloc,
+        Function::Concat,
+        letters(alloc, 1_000)?,
+        letters(alloc, len)?,
+    )
+}
+
+// A list of `len` entries and of one more.
+fn added(alloc: Global, len: usize) -> Result<Expr, NoMemory> {
+    let zeros = Vec::from_elem(alloc, 0i64, len)?;
+    call_two(
+        alloc,
+        Function::Add,
+        constant(ids(alloc, zeros.as_slice())?),
+        int(1),
+    )
+}
+
+fn assert_len(
+    rt: &impl Abort,
+    alloc: Global,
+    e: Expr,
+    expected: Result<Value, EvalStop>,
+) -> Result<(), NoMemory> {
+    let scope = test_scope(alloc)?;
+    let length = call_one(alloc, Function::Len, e)?;
+    assert_eq!(rt; eval(alloc, &length, &scope), expected);
+    Ok(())
+}
+
 #[test]
 fn keeps_texts_and_lists_within_bounds(rt: HostRuntime) -> Result<(), Fail> {
     let alloc = rt.alloc();
-    let scope = sample(alloc)?;
-    let short = call_two(
+    assert_len(&rt, alloc, joined(alloc, 24)?, Ok(Value::Int(1_024)))?;
+    assert_len(&rt, alloc, joined(alloc, 25)?, fault(Cause::TextTooLong, 3))?;
+    assert_len(
+        &rt,
         alloc,
-        Function::Concat,
-        letters(alloc, 1_000)?,
-        letters(alloc, 24)?,
+        added(alloc, 999_999)?,
+        Ok(Value::Int(1_000_000)),
     )?;
-    let length = call_one(alloc, Function::Len, short)?;
-    assert_eq!(rt; eval(alloc, &length, &scope), Ok(Value::Int(1_024)));
-    let long = call_two(
+    assert_len(
+        &rt,
         alloc,
-        Function::Concat,
-        letters(alloc, 1_000)?,
-        letters(alloc, 25)?,
+        added(alloc, 1_000_000)?,
+        fault(Cause::ListTooLong, 3),
     )?;
-    assert_eq!(rt; eval(alloc, &long, &scope), fault(Cause::TextTooLong, 3));
-    let zeros = Vec::from_elem(alloc, 0i64, 999_999)?;
-    let most = constant(ids(alloc, zeros.as_slice())?);
-    let most = eval(
-        alloc,
-        &call_two(alloc, Function::Add, most, int(1))?,
-        &scope,
-    )?;
-    let length = call_one(alloc, Function::Len, constant(most.copy()?))?;
-    assert_eq!(rt; eval(alloc, &length, &scope), Ok(Value::Int(1_000_000)));
-    let long = call_two(alloc, Function::Add, constant(most), int(1))?;
-    assert_eq!(rt; eval(alloc, &long, &scope), fault(Cause::ListTooLong, 3));
     Ok(())
 }

@@ -1,6 +1,5 @@
-use Rattle.std.proofs.Common.{◌≡◌, ◌≤◌, true, List, length, rules, w64, FitsSigned, to_z-of_z}
+use Rattle.std.proofs.Common.{◌≡◌, ◌≤◌, true, length, rules, w64, FitsSigned, to_z-of_z}
 use Rattle.gx_expr.specs.Evaluation.{is_arithmetic}
-use Rattle.gx_expr.specs.declared.expr.Expr.{Expr}
 use Rattle.gx_expr.proofs.Calls.{eval_many, evaluates_arithmetic}
 use Rattle.gx_expr.proofs.evaluate.+evaluation.Goals as goal
 

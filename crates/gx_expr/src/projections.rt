@@ -3,13 +3,13 @@
 
 ghost use Rattle.std.specs.Prelude.{◌≡◌, IsSorted};
 ghost use Rattle.std.specs.Ordering.{int_cmp};
-ghost use Rattle.gx_expr.specs.Evaluation.{bytes_of, entries_of, int_of, size_of, truth_of};
+ghost use Rattle.gx_expr.specs.Evaluation.{bytes_of, ids_of, int_of_value, size_of, truth_of_value};
 
 use gx_rows::Value;
 
 /// The number of a value.
 pub(crate) fn number_of(value: &Value) -> i64
-    ensures { result ≡ int_of value.now }
+    ensures { result ≡ int_of_value value.now }
 {
     match value {
         Value::Int(number) => *number,
@@ -19,7 +19,7 @@ pub(crate) fn number_of(value: &Value) -> i64
 
 /// The truth of a value.
 pub(crate) fn truth_of(value: &Value) -> bool
-    ensures { result ≡ truth_of value.now }
+    ensures { result ≡ truth_of_value value.now }
 {
     match value {
         Value::Bool(truth) => *truth,
@@ -39,7 +39,7 @@ pub(crate) fn text_of(value: &Value) -> &str
 
 /// The entries of a list, borrowed.
 pub(crate) fn entries_of(value: &Value) -> &[i64]
-    ensures entries { result.now ≡ entries_of value.now }
+    ensures entries { result.now ≡ ids_of value.now }
     ensures sorted { IsSorted int_cmp result.now }
 {
     match value {
