@@ -52,7 +52,7 @@ less_if_apart Equal le apart = cc
 less_if_apart Greater le apart = cc
 
 -- distinct identifiers that do not fall ascend
-pub IsAscending-from_sorted : (ids : List Vid) → HasDistinctIds ids → AllAdjacentBelow (λ v w. is_le (id_cmp v w) ≡ true) ids (length ids) → IsAscending ids
-IsAscending-from_sorted ids distinct sorted =
+pub IsAscending-from_is_sorted : (ids : List Vid) → HasDistinctIds ids → AllAdjacentBelow (λ v w. is_le (id_cmp v w) ≡ true) ids (length ids) → IsAscending ids
+IsAscending-from_is_sorted ids distinct sorted =
     sorted_from_all_adjacent id_cmp-total ids (record { 0 = pos 0 })
     (λ k within. less_if_apart _ (sorted k (record { 0 = pos 0 }) within) (apart_from_distinct is_same_id ids k (k + 1) (record { 0 = pos 0 }) distinct (omega arith) within))
