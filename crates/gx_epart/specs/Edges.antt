@@ -52,5 +52,5 @@ reversed_edges-example = refl
 edges_with_rows-example : edges_with_rows ((record { 0 = pos 1 }, record { 0 = pos 2 }, Int (pos 4) ∷ []) ∷ []) ((Int (pos 5) ∷ []) ∷ []) ≡ (record { 0 = pos 1 }, record { 0 = pos 2 }, Int (pos 5) ∷ []) ∷ []
 edges_with_rows-example = refl
 
-edges_kept-example : edges_kept (1 ∷ 2 ∷ 3 ∷ []) (true ∷ false ∷ true ∷ []) ≡ 1 ∷ 3 ∷ []
+edges_kept-example : edges_kept {E = ℕ} (1 ∷ 2 ∷ 3 ∷ []) (true ∷ false ∷ true ∷ []) ≡ 1 ∷ 3 ∷ []
 edges_kept-example = refl

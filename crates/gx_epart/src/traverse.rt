@@ -74,7 +74,6 @@ impl EPart {
     }
 
     fn with_rows(&self, rows: Vec<Row>) -> Result<EPart, NoMemory>
-        requires { vec_len rows ≡ length self.now }
         ensures { IfOk result (IsEdgeOrderOf (edges_with_rows self.now rows.items)) }
     {
         let alloc = *self.edges.allocator();
