@@ -1,4 +1,6 @@
 pub mod Ends
 pub mod Locals
+pub mod Numbered
 pub mod Orders
 pub mod Reversing
+pub mod Traversing

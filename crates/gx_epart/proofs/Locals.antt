@@ -51,14 +51,14 @@ length-locals_of es = length-locals_from 0 es
 
 pub numbers_with_rows-edges : (ids : List Vid) (rows : List (List Value)) (locals : List LocalEdge) (new : List (List Value))
     → map (edge_of_numbers ids) (numbers_with_rows locals new) ≡ edges_with_rows (edges_of_locals ids rows locals) new
-numbers_with_rows-edges ids rows [] new = refl
-numbers_with_rows-edges ids rows (e ∷ locals) [] = refl
+numbers_with_rows-edges ids rows locals [] = refl
+numbers_with_rows-edges ids rows [] (r ∷ new) = refl
 numbers_with_rows-edges ids rows (e ∷ locals) (r ∷ new) = ap (λ es. edge_of_numbers ids (e.src, e.dst, r) ∷ es) (numbers_with_rows-edges ids rows locals new)
 
 with_rows-ids : {R : Type 0} (ids : List Vid) (rows : List (List Value)) (locals : List LocalEdge) (new : List R)
     → AllByRecursion (IsInRange ids rows) locals → AllByRecursion (HasIds ids) (numbers_with_rows locals new)
-with_rows-ids ids rows [] new all = tt
-with_rows-ids ids rows (e ∷ locals) [] all = tt
+with_rows-ids ids rows locals [] all = tt
+with_rows-ids ids rows [] (r ∷ new) all = tt
 with_rows-ids ids rows (e ∷ locals) (r ∷ new) all = ((all.0.0, all.0.1), with_rows-ids ids rows locals new all.1)
 
 pub HasIds-with_rows : {R : Type 0} (ids : List Vid) (rows : List (List Value)) (locals : List LocalEdge) (new : List R)
@@ -67,8 +67,8 @@ HasIds-with_rows ids rows locals new all =
     All-from_recursion (HasIds ids) (numbers_with_rows locals new) (with_rows-ids ids rows locals new (recursion_from_All (IsInRange ids rows) locals all))
 
 pub length-with_rows : {R : Type 0} (locals : List LocalEdge) (new : List R) → length (numbers_with_rows locals new) ≤ length locals
-length-with_rows [] new = omega arith
-length-with_rows (e ∷ locals) [] = omega arith
+length-with_rows locals [] = omega arith
+length-with_rows [] (r ∷ new) = omega arith
 length-with_rows (e ∷ locals) (r ∷ new) = omega (arith, length-with_rows locals new)
 
 -- ---- reversed edges

@@ -1,14 +1,15 @@
 -- The order of edges, and what keeps it.
+use Rattle.std.specs.Prelude.{⊤}
 use Rattle.std.proofs.Common.{◌≡◌, ℕ, zero, suc, ◌+◌, ◌<◌, ◌≤◌, Bool, true, false, cond, List, [], ◌∷◌, All, IsSorted, IsSortedBy, IsSortedByKey, IsPermutation, get_or, length, map, refl, sym, ap, ◌∙◌, subst, arith, pos}
 use Rattle.std.specs.Cmp.{IsTotalOrder, IsStrictWeakOrder}
 use Rattle.std.specs.Cmp.Lexicographic.{slice_cmp}
 use Rattle.std.specs.List.{AllByRecursion}
 use Rattle.std.specs.List.Sorted.{IsStableBy, ties}
-use Rattle.std.specs.Ordering.{nat_cmp, int_cmp, is_lt, is_gt, ordering_then, ordering_reverse, on, then_cmp}
+use Rattle.std.specs.Ordering.{MatchOrdering, nat_cmp, is_lt, ordering_reverse, ordering_then, on, then_cmp}
 use Rattle.std.specs.declared.cmp.Ordering.{Ordering}
 use Rattle.std.specs.declared.cmp.Ordering.TheVariants.{Less, Equal, Greater}
 use Rattle.std.proofs.lemmas.Bool.{cases_lt}
-use Rattle.std.proofs.lemmas.Cmp.{nat_cmp_total, on_total, ranked, tied_itself}
+use Rattle.std.proofs.lemmas.Cmp.{ranked, tied_itself}
 use Rattle.std.proofs.lemmas.List.{get_or-map, length-map}
 use Rattle.std.proofs.lemmas.List.Elements.{All-from_recursion, recursion_from_All}
 use Rattle.std.proofs.lemmas.List.MinMax.{ranks_by}
@@ -23,9 +24,6 @@ use Rattle.gx_epart.specs.declared.local_edge.LocalEdge.{LocalEdge}
 use Rattle.gx_epart.specs.Numbers.{HasIds, IsInRange, edge_of_local, edge_of_numbers, edges_of_locals, id_of_number, reversed_local}
 
 -- ---- numbers are in the order of their identifiers
-
-zero_id : Vid
-zero_id = record { 0 = pos 0 }
 
 cmp-less : (ids : List Vid) (a b : ℕ) → IsAscending ids → a < b → b < length ids → id_cmp (id_of_number ids a) (id_of_number ids b) ≡ Less
 cmp-less ids a b ascending less within = Less-from_sorted id_cmp ids a b (record { 0 = pos 0 }) ascending less within
@@ -49,12 +47,18 @@ cmp-numbers ids a b ascending left right =
 
 -- by the number of the source, then of the destination, then by row
 abbrev pub numbered_cmp : ℕ × ℕ × List Value → ℕ × ℕ × List Value → Ordering
-numbered_cmp = then_cmp (on (λ e. e.0) nat_cmp) (then_cmp (on (λ e. e.1) nat_cmp) (on (λ e. e.2) row_cmp))
+numbered_cmp = then_cmp (then_cmp (on (λ e. e.0) nat_cmp) (on (λ e. e.1) nat_cmp)) (on (λ e. e.2) row_cmp)
+
+then-assoc : (r s t : Ordering) → ordering_then r (ordering_then s t) ≡ ordering_then (ordering_then r s) t
+then-assoc Less s t = refl
+then-assoc Equal s t = refl
+then-assoc Greater s t = refl
 
 cmp-edge_of_numbers : (ids : List Vid) (x y : ℕ × ℕ × List Value) → IsAscending ids → HasIds ids x → HasIds ids y
     → edge_cmp (edge_of_numbers ids x) (edge_of_numbers ids y) ≡ numbered_cmp x y
 cmp-edge_of_numbers ids x y ascending known_x known_y =
-    rw (cmp-numbers ids x.0 y.0 ascending known_x.0 known_y.0, cmp-numbers ids x.1 y.1 ascending known_x.1 known_y.1) refl
+    rw (cmp-numbers ids x.0 y.0 ascending known_x.0 known_y.0, cmp-numbers ids x.1 y.1 ascending known_x.1 known_y.1)
+    (then-assoc (nat_cmp x.0 y.0) (nat_cmp x.1 y.1) (row_cmp x.2 y.2))
 
 pub IsSorted-edge_of_numbers : (ids : List Vid) (es : List (ℕ × ℕ × List Value)) → IsAscending ids → All (HasIds ids) es → IsSorted numbered_cmp es
     → IsSorted edge_cmp (map (edge_of_numbers ids) es)
@@ -106,7 +110,9 @@ sorted-tail lt x xs sorted k d low high =
     let at = sorted (k + 1) d (omega arith) next in
     let one : k + 1 ≡ suc k = omega arith in
     let two : k + 1 + 1 ≡ suc (k + 1) = omega arith in
-    rw (two, one) at at
+    let first : get_or (x ∷ xs) (k + 1) d ≡ get_or xs k d = ap (λ n. get_or (x ∷ xs) n d) one in
+    let second : get_or (x ∷ xs) (k + 1 + 1) d ≡ get_or xs (k + 1) d = ap (λ n. get_or (x ∷ xs) n d) two in
+    rw (first, second) at at
 
 Rises-from_sorted : {X : Type 0} (lt : X → X → Bool) → IsStrictWeakOrder lt → (xs : List X) → IsSortedBy lt xs → Rises lt xs
 Rises-from_sorted lt order [] sorted = tt
@@ -120,8 +126,7 @@ sorted_from_rises : {X : Type 0} (lt : X → X → Bool) (xs : List X) → Rises
 sorted_from_rises lt [] rises k d low high = absurd (omega arith)
 sorted_from_rises lt (x ∷ xs) rises zero d low high =
     let first : 0 < length xs = omega arith in
-    let one : zero + 1 ≡ suc zero = omega arith in
-    rw one (All-from_recursion (λ y. lt y x ≡ false) xs rises.0 0 d first)
+    All-from_recursion (λ y. lt y x ≡ false) xs rises.0 0 d first
 sorted_from_rises lt (x ∷ xs) rises (suc k) d low high =
     let next : k + 1 < length xs = omega arith in
     let one : suc k + 1 ≡ suc (k + 1) = omega arith in
@@ -129,5 +134,5 @@ sorted_from_rises lt (x ∷ xs) rises (suc k) d low high =
 
 pub IsSorted-kept : (edges : List Edge) (keeps : List Bool) → IsSorted edge_cmp edges → IsSorted edge_cmp (edges_kept edges keeps)
 IsSorted-kept edges keeps sorted =
-    let lt = λ x y. is_lt (edge_cmp x y) in
+    let lt : Edge → Edge → Bool = λ x y. is_lt (edge_cmp x y) in
     sorted_from_rises lt (edges_kept edges keeps) (Rises-kept lt edges keeps (Rises-from_sorted lt (ranks_by edge_cmp-total (λ e. e)) edges sorted))

@@ -33,8 +33,8 @@ reversed_edges edges = map reversed_edge edges
 
 -- each edge with a new row
 abbrev pub edges_with_rows : List Edge → List (List Value) → List Edge
-edges_with_rows [] rows = []
-edges_with_rows (e ∷ edges) [] = []
+edges_with_rows edges [] = []
+edges_with_rows [] (row ∷ rows) = []
 edges_with_rows (e ∷ edges) (row ∷ rows) = (e.0, e.1, row) ∷ edges_with_rows edges rows
 
 -- the edges whose bool is true

@@ -48,8 +48,8 @@ locals_of edges = locals_from 0 edges
 
 -- the ends of each edge, with a new row
 abbrev pub numbers_with_rows : {R : Type 0} → List LocalEdge → List R → List (ℕ × ℕ × R)
-numbers_with_rows [] rows = []
-numbers_with_rows (e ∷ edges) [] = []
+numbers_with_rows edges [] = []
+numbers_with_rows [] (row ∷ rows) = []
 numbers_with_rows (e ∷ edges) (row ∷ rows) = (e.src, e.dst, row) ∷ numbers_with_rows edges rows
 
 -- source and destination exchanged

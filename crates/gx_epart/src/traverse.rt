@@ -103,7 +103,7 @@ fn numbers_with(
     let mut rest = edges;
     for row in rows {
         let [edge, after @ ..] = rest else {
-            break;
+            return Ok(numbered);
         };
         numbered.push((edge.src, edge.dst, row))?;
         rest = after;
