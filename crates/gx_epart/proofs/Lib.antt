@@ -1,3 +1,4 @@
+pub mod Derived
 pub mod Ends
 pub mod Locals
 pub mod Numbered

@@ -38,10 +38,6 @@ then-not_less Equal Equal t not_less last = last refl
 then-not_less Equal Greater t not_less last = refl
 
 module _ (ids : List Vid) (rows : List (List Value)) where
-  row_at : LocalEdge → List Value
-  unfolding row_at
-  row_at e = (edge_of_local ids rows e).2
-
   -- the edge before it was reversed
   abbrev before_reversal : LocalEdge → Edge
   before_reversal e = reversed_edge (edge_of_local ids rows e)
@@ -68,8 +64,8 @@ module _ (ids : List Vid) (rows : List (List Value)) where
       let b = get_or turned (k + 1) e in
       let in_a = known k e before in
       let in_b = known (k + 1) e next in
-      let lt = λ x y. is_lt (edge_cmp (before_reversal x) (before_reversal y)) in
-      let by = λ x y. is_lt (ends_cmp x y) in
+      let lt : LocalEdge → LocalEdge → Bool = λ x y. is_lt (edge_cmp (before_reversal x) (before_reversal y)) in
+      let by : LocalEdge → LocalEdge → Bool = λ x y. is_lt (ends_cmp x y) in
       let src = cmp-numbers ids b.src a.src ascending in_b.0 in_a.0 in
       let dst = cmp-numbers ids b.dst a.dst ascending in_b.1 in_a.1 in
       rw (get_or-map (edge_of_local ids rows) turned k e d before, get_or-map (edge_of_local ids rows) turned (k + 1) e d next)
