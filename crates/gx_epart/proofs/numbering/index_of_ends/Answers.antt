@@ -1,5 +1,7 @@
+use Rattle.std.proofs.Common.{All}
 use Rattle.std.proofs.lemmas.Result.{IfOk-weaker}
 use Rattle.gx_index.specs.Ids.{HasDistinctIds-from_ascending}
+use Rattle.gx_epart.specs.Numbers.{HasKnownEnds}
 use Rattle.gx_epart.proofs.Ends.{HasKnownEnds-set}
 use Rattle.gx_epart.proofs.numbering.index_of_ends.Goals as goal
 
@@ -9,4 +11,4 @@ of-requires-2-clause-distinct c = rw c.ids-2.ensures.exact (HasDistinctIds-from_
 pub returns-clause-all_ends : goal.returns-clause-all_ends
 returns-clause-all_ends c =
     let all = HasKnownEnds-set c.as_slice.result.now c.in_ok-set.set c.args.edges.now (rw c.as_slice.ensures.value c.in_ok-ids.ensures) c.in_ok-set.ensures in
-    IfOk-weaker _ _ _ (λ index same. rw (same, c.ids-2.ensures.exact) all) c.of-2.ensures
+    IfOk-weaker c.of-2.result _ (λ ends. All (HasKnownEnds ends) c.args.edges.now) (λ index same. rw (same, c.ids-2.ensures.exact) all) c.of-2.ensures
