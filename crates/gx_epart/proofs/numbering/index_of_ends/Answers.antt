@@ -1,4 +1,4 @@
-use Rattle.std.proofs.Common.{All}
+use Rattle.std.proofs.Common.{All, subst, sym}
 use Rattle.std.proofs.lemmas.Result.{IfOk-weaker}
 use Rattle.gx_index.specs.Ids.{HasDistinctIds-from_ascending}
 use Rattle.gx_epart.specs.Numbers.{HasKnownEnds}
@@ -11,4 +11,6 @@ of-requires-2-clause-distinct c = rw c.ids-2.ensures.exact (HasDistinctIds-from_
 pub returns-clause-all_ends : goal.returns-clause-all_ends
 returns-clause-all_ends c =
     let all = HasKnownEnds-set c.as_slice.result.now c.in_ok-set.set c.args.edges.now (rw c.as_slice.ensures.value c.in_ok-ids.ensures) c.in_ok-set.ensures in
-    IfOk-weaker c.of-2.result _ (λ ends. All (HasKnownEnds ends) c.args.edges.now) (λ index same. rw (same, c.ids-2.ensures.exact) all) c.of-2.ensures
+    let known : All (HasKnownEnds c.ids-2.result.now) c.args.edges.now = rw c.ids-2.ensures.exact all in
+    IfOk-weaker c.of-2.result _ (λ ends. All (HasKnownEnds ends) c.args.edges.now)
+    (λ index same. subst (λ ids. All (HasKnownEnds ids) c.args.edges.now) (sym same) known) c.of-2.ensures

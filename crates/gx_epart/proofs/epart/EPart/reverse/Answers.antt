@@ -9,7 +9,7 @@ invariant_of-result c =
     HasEdges-reversed c.self.inside.ends.value _ c.self.inside.rows.value.items _ c.self.inside.edges.items c.sort_by_key.new.self.items c.self.invariant
     (search rules) (search rules)
     (rw (turned, c.as_slice.ensures.value) at c.sort_by_key.ensures.permutation)
-    (c.sort_by_key.ensures.sorted (λ e. (e.src, e.dst)) (answers_always _ _ _ (λ f a r q k. search rules)))
+    (c.in_ok-sort_by_key.ensures.sorted (λ e. (e.src, e.dst)) (answers_always _ _ _ (λ f a r q k. search rules)))
     (rw (turned, c.as_slice.ensures.value) at (c.sort_by_key.ensures.stable (λ e. (e.src, e.dst)) (answers_always _ _ _ (λ f a r q k. search rules))))
 
 pub returns : goal.returns
@@ -18,6 +18,6 @@ returns c =
     edges-reversed c.self.inside.ends.value c.in_ok-ends.ends.value c.self.inside.rows.value.items c.in_ok-rows.rows.value.items c.self.inside.edges.items c.sort_by_key.new.self.items c.self.invariant
     (search rules) (search rules)
     (rw (turned, c.as_slice.ensures.value) at c.sort_by_key.ensures.permutation)
-    (c.sort_by_key.ensures.sorted (λ e. (e.src, e.dst)) (answers_always _ _ _ (λ f a r q k. search rules)))
+    (c.in_ok-sort_by_key.ensures.sorted (λ e. (e.src, e.dst)) (answers_always _ _ _ (λ f a r q k. search rules)))
     (rw (turned, c.as_slice.ensures.value) at (c.sort_by_key.ensures.stable (λ e. (e.src, e.dst)) (answers_always _ _ _ (λ f a r q k. search rules))))
     c.args.self.now c.self.view_is
