@@ -16,7 +16,6 @@ use Rattle.gx_epart.proofs.Reversing.{IsSorted-reversed, ends_cmp}
 
 module _ (ids ids' : List Vid) (rows rows' : List (List Value)) (locals locals' : List LocalEdge) (has : HasEdges ids rows locals)
     (same_ids : ids' ≡ ids) (same_rows : rows' ≡ rows) where
-
   -- ---- edges that are kept
 
   edges_of_locals-kept : (keeps : List Bool) → edges_of_locals ids rows (edges_kept locals keeps) ≡ edges_kept (edges_of_locals ids rows locals) keeps

@@ -54,10 +54,9 @@ known_ends : (ids : List Vid) (edges : List Edge) → ((v : Vid) → has_id v (s
     → AllByRecursion (HasKnownEnds ids) edges
 known_ends ids [] there = tt
 known_ends ids (e ∷ edges) there =
-    let itself = (eq_by_cmp_equiv id_cmp-total).refl in
-    (
+    let itself = (eq_by_cmp_equiv id_cmp-total).refl in (
       (there e.0 (rw (itself e.0) refl), there e.1 (rw (itself e.1) (or-true (is_same_id e.1 e.0)))),
-      known_ends ids edges (λ v known. there v (rw (known, or-true (is_same_id v e.1)) (or-true (is_same_id v e.0))))
+      known_ends ids edges (λ v known. there v (rw (known, or-true (is_same_id v e.1)) (or-true (is_same_id v e.0)))),
     )
 
 -- the set of all ends has both ends of each edge

@@ -23,7 +23,7 @@ edges_of_locals-from ids pre (e ∷ es) n at =
     let next : n + 1 ≡ length (pre ++ e.2 ∷ []) = omega (arith, length_push pre e.2, at) in
     let row : get_or (pre ++ e.2 ∷ map (λ e. e.2) es) n [] ≡ e.2 = rw at (get_or-append_seam pre e.2 (map (λ e. e.2) es) []) in
     let rest : edges_of_locals ids (pre ++ e.2 ∷ map (λ e. e.2) es) (locals_from (n + 1) es) ≡ map (edge_of_numbers ids) es
-            = rw rows-step (edges_of_locals-from ids (pre ++ e.2 ∷ []) es (n + 1) next) in
+    = rw rows-step (edges_of_locals-from ids (pre ++ e.2 ∷ []) es (n + 1) next) in
     rw (row, rest) refl
 
 pub edges_of_locals-of : (ids : List Vid) (es : List (ℕ × ℕ × List Value)) → edges_of_locals ids (map (λ e. e.2) es) (locals_of es) ≡ map (edge_of_numbers ids) es

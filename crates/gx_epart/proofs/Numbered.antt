@@ -23,11 +23,10 @@ pub numbered-more : (ids : List Vid) (edges rest after : List Edge) (numbered mo
     → (map (edge_of_numbers ids) more ++ after ≡ edges) × All (HasIds ids) more × All (HasKnownEnds ids) after
 numbered-more ids edges rest after numbered more e src dst so_far first at_src at_dst pushed =
     let so_far = rw first at so_far in
-    let this : edge_of_numbers ids (src, dst, e.2) ≡ e = rw (id_of_number-at ids src e.0 at_src, id_of_number-at ids dst e.1 at_dst) refl in
-    (
+    let this : edge_of_numbers ids (src, dst, e.2) ≡ e = rw (id_of_number-at ids src e.0 at_src, id_of_number-at ids dst e.1 at_dst) refl in (
       rw (pushed, map-append, append_assoc, this) so_far.0,
       rw pushed (All-push (HasIds ids) numbered (src, dst, e.2) so_far.1 (slice_get_within ids src e.0 at_src, slice_get_within ids dst e.1 at_dst)),
-      All-tail (HasKnownEnds ids) e after so_far.2
+      All-tail (HasKnownEnds ids) e after so_far.2,
     )
 
 module _ (ids : List Vid) (es ordered : List (ℕ × ℕ × List Value)) (ascending : IsAscending ids) (known : All (HasIds ids) es)

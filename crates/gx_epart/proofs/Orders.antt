@@ -116,11 +116,10 @@ sorted-tail lt x xs sorted k d low high =
 
 Rises-from_sorted : {X : Type 0} (lt : X → X → Bool) → IsStrictWeakOrder lt → (xs : List X) → IsSortedBy lt xs → Rises lt xs
 Rises-from_sorted lt order [] sorted = tt
-Rises-from_sorted lt order (x ∷ xs) sorted =
-    (
-      recursion_from_All (λ y. lt y x ≡ false) xs (λ k d within. sorted_far lt order (x ∷ xs) sorted 0 (suc k) d (omega arith) (omega arith)),
-      Rises-from_sorted lt order xs (sorted-tail lt x xs sorted)
-    )
+Rises-from_sorted lt order (x ∷ xs) sorted = (
+  recursion_from_All (λ y. lt y x ≡ false) xs (λ k d within. sorted_far lt order (x ∷ xs) sorted 0 (suc k) d (omega arith) (omega arith)),
+  Rises-from_sorted lt order xs (sorted-tail lt x xs sorted),
+)
 
 sorted_from_rises : {X : Type 0} (lt : X → X → Bool) (xs : List X) → Rises lt xs → IsSortedBy lt xs
 sorted_from_rises lt [] rises k d low high = absurd (omega arith)

@@ -72,7 +72,7 @@ module _ (ids : List Vid) (rows : List (List Value)) where
       (rw (src, dst)
       (then-not_less (nat_cmp b.src a.src) (nat_cmp b.dst a.dst) (row_cmp (edge_of_local ids rows b).2 (edge_of_local ids rows a).2) (by_ends k e low next)
       (λ tie.
-          let back = tied_back ends_cmp-total b a tie in
-          let kept = ties_stay_sorted lt by (ranks_by edge_cmp-total before_reversal) (ranks_by ends_cmp-total (λ x. x)) (map reversed_local locals) turned (sorted_before locals sorted) stable k e next (rw (tie, back) refl) in
-          let both = then-Equal (nat_cmp b.src a.src) (nat_cmp b.dst a.dst) tie in
-          rw (src, dst, both.0, both.1) at kept)))
+      let back = tied_back ends_cmp-total b a tie in
+      let kept = ties_stay_sorted lt by (ranks_by edge_cmp-total before_reversal) (ranks_by ends_cmp-total (λ x. x)) (map reversed_local locals) turned (sorted_before locals sorted) stable k e next (rw (tie, back) refl) in
+      let both = then-Equal (nat_cmp b.src a.src) (nat_cmp b.dst a.dst) tie in
+      rw (src, dst, both.0, both.1) at kept)))

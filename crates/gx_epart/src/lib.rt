@@ -12,6 +12,8 @@
 mod epart;
 mod local_edge;
 mod numbering;
+#[cfg(test)]
+mod tests;
 mod traverse;
 
 pub use epart::EPart;

@@ -95,7 +95,11 @@ fn split(
     let mut rows = Vec::with_capacity(alloc, numbered.len())?;
     for (src, dst, row) in numbered {
         let position = rows.len() as u32;
-        edges.push(LocalEdge { src, dst, row: position })?;
+        edges.push(LocalEdge {
+            src,
+            dst,
+            row: position,
+        })?;
         rows.push(row)?;
     }
     Ok((edges, rows))

@@ -16,5 +16,9 @@ sort_numbered-requires-clause-in_range c =
 pub returns : goal.returns
 returns c =
     let same : c.in_ok-clone.field-0.value ≡ c.self.inside.ends.value = search rules in
-    rw (same, c.in_ok-numbered.ensures, c.as_slice.ensures.value,
-    edges-with_rows c.self.inside.ends.value c.self.inside.rows.value.items c.self.inside.edges.items c.self.invariant c.args.rows.items c.args.self.now c.self.view_is) at c.sort_numbered.ensures
+    rw (
+      same,
+      c.in_ok-numbered.ensures,
+      c.as_slice.ensures.value,
+      edges-with_rows c.self.inside.ends.value c.self.inside.rows.value.items c.self.inside.edges.items c.self.invariant c.args.rows.items c.args.self.now c.self.view_is,
+    ) at c.sort_numbered.ensures
