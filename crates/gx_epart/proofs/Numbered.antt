@@ -3,7 +3,7 @@ use Rattle.std.proofs.Common.{◌≡◌, ℕ, ◌+◌, ◌<◌, ◌^◌, IsPermu
 use Rattle.std.proofs.lemmas.List.{append_assoc, map-append}
 use Rattle.std.proofs.lemmas.List.Elements.{All-push, All-tail}
 use Rattle.std.proofs.lemmas.Option.{get_or_from_slice_get, slice_get_within}
-use Rattle.gx_rows.specs.Order.{Edge}
+use Rattle.gx_rows.specs.Order.{Edge, edge_cmp}
 use Rattle.gx_rows.specs.declared.value.Value.{Value}
 use Rattle.gx_rows.specs.declared.vid.Vid.{Vid}
 use Rattle.std.proofs.lemmas.List.Sorted.{All-permutation, IsPermutation-map, length_permutation}
@@ -29,23 +29,26 @@ numbered-more ids edges rest after numbered more e src dst so_far first at_src a
       All-tail (HasKnownEnds ids) e after so_far.2,
     )
 
+module _ (ids : List Vid) (es : List (ℕ × ℕ × List Value)) (rows : List (List Value)) (locals : List LocalEdge)
+    (rows_are : rows ≡ map (λ e. e.2) es) (locals_are : locals ≡ locals_of es) where
+  pub HasEdges-packed : length es < 2 ^ 32 → IsAscending ids → All (HasIds ids) es → IsSorted edge_cmp (map (edge_of_numbers ids) es) → HasEdges ids rows locals
+  HasEdges-packed few ascending known sorted = rw (rows_are, locals_are) (record {
+    few = omega (arith, length-locals_of es, few);
+    ascending = ascending;
+    in_range = IsInRange-of ids es known;
+    sorted = rw edges_of_locals-of sorted;
+  })
+
+  pub edges-packed : edges_of_locals ids rows locals ≡ map (edge_of_numbers ids) es
+  edges-packed = rw (rows_are, locals_are) (edges_of_locals-of ids es)
+
 module _ (ids : List Vid) (es ordered : List (ℕ × ℕ × List Value)) (ascending : IsAscending ids) (known : All (HasIds ids) es)
     (same : IsPermutation es ordered) (sorted : IsSorted numbered_cmp ordered) where
-  known_ordered : All (HasIds ids) ordered
-  known_ordered = All-permutation (HasIds ids) es ordered same known
+  pub HasIds-ordered : All (HasIds ids) ordered
+  HasIds-ordered = All-permutation (HasIds ids) es ordered same known
 
-  pub HasEdges-ordered : (rows : List (List Value)) (locals : List LocalEdge) → length es < 2 ^ 32
-      → rows ≡ map (λ e. e.2) ordered → locals ≡ locals_of ordered → HasEdges ids rows locals
-  HasEdges-ordered rows locals few rows_is locals_is = rw (rows_is, locals_is) (record {
-    few = omega (arith, length-locals_of ordered, length_permutation es ordered same, few);
-    ascending = ascending;
-    in_range = IsInRange-of ids ordered known_ordered;
-    sorted = rw edges_of_locals-of (IsSorted-edge_of_numbers ids ordered ascending known_ordered sorted);
-  })
-
-  pub IsEdgeOrderOf-ordered : (rows : List (List Value)) (locals : List LocalEdge)
-      → rows ≡ map (λ e. e.2) ordered → locals ≡ locals_of ordered → IsEdgeOrderOf (map (edge_of_numbers ids) es) (edges_of_locals ids rows locals)
-  IsEdgeOrderOf-ordered rows locals rows_is locals_is = rw (rows_is, locals_is, edges_of_locals-of) (record {
+  pub IsEdgeOrderOf-ordered : IsEdgeOrderOf (map (edge_of_numbers ids) es) (map (edge_of_numbers ids) ordered)
+  IsEdgeOrderOf-ordered = record {
     same = IsPermutation-map (edge_of_numbers ids) es ordered same;
-    sorted = IsSorted-edge_of_numbers ids ordered ascending known_ordered sorted;
-  })
+    sorted = IsSorted-edge_of_numbers ids ordered ascending HasIds-ordered sorted;
+  }

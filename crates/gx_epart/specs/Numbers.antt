@@ -1,5 +1,5 @@
 -- Edges by numbers: an end by its position among the ends, a row by its position among the rows.
-use Rattle.std.specs.Prelude.{◌≡◌, ℕ, pos, ◌+◌, ◌<◌, ◌^◌, true, List, [], ◌∷◌, All, IsSorted, length, map, refl, slice_index_or}
+use Rattle.std.specs.Prelude.{◌≡◌, ℕ, pos, ◌+◌, ◌<◌, ◌^◌, true, List, [], ◌∷◌, All, IsSorted, length, map, Option, Some, None, ⊤, refl, slice_get, slice_index_or}
 use Rattle.gx_rows.specs.Order.{Edge, edge_cmp}
 use Rattle.gx_rows.specs.declared.value.Value.{Value}
 use Rattle.gx_rows.specs.declared.vid.Vid.{Vid}
@@ -37,6 +37,11 @@ sources_and_destinations (e ∷ edges) = e.0 ∷ e.1 ∷ sources_and_destination
 -- both ends are among the identifiers
 abbrev pub HasKnownEnds : List Vid → Edge → Type 0
 HasKnownEnds ids e = (has_id e.0 ids ≡ true) × (has_id e.1 ids ≡ true)
+
+-- the number, if there is one, is that of the identifier beside it
+abbrev pub IsNumbered : List Vid → Option (Vid × ℕ) → Type 0
+IsNumbered ids None = ⊤
+IsNumbered ids (Some last) = slice_get ids last.1 ≡ Some last.0
 
 -- the ends of each edge, with the position of its row, from position n on
 abbrev pub locals_from : {R : Type 0} → ℕ → List (ℕ × ℕ × R) → List LocalEdge

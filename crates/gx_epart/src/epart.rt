@@ -6,7 +6,7 @@ ghost use Rattle.gx_index.specs.Ends.{IsEndsOf};
 ghost use Rattle.gx_epart.specs.Edges.{IsEdgeOrderOf, ends_of_edges, reversed_edges};
 
 use crate::local_edge::LocalEdge;
-use crate::numbering::{index_of_ends, number_ends, sort_numbered};
+use crate::numbering::{index_of_ends, number_ends, pack};
 use crate::traverse::turned;
 use gx_index::{Ends, Index};
 use gx_rows::{NoMemory, Row, Vid};
@@ -44,14 +44,15 @@ impl EPart {
     /// # Errors
     ///
     /// `NoMemory` if memory for the partition runs out, or if the edges have 2^32 ends or more.
-    pub fn from_edges(alloc: Global, edges: Vec<(Vid, Vid, Row)>) -> Result<EPart, NoMemory>
+    pub fn from_edges(alloc: Global, mut edges: Vec<(Vid, Vid, Row)>) -> Result<EPart, NoMemory>
         requires few { vec_len edges < 2 ^ 32 }
         ensures sorted { IfOk result (IsSorted edge_cmp) }
         ensures same { IfOk result (IsPermutation edges.items) }
     {
+        edges.sort_unstable();
         let ends = index_of_ends(alloc, edges.as_slice())?;
         let numbered = number_ends(alloc, &ends, edges)?;
-        sort_numbered(alloc, Rc::new(alloc, ends)?, numbered)
+        pack(alloc, Rc::new(alloc, ends)?, numbered)
     }
 
     /// The number of edges.

@@ -1,9 +1,10 @@
 //! From edges to numbers, and to the order of edges.
 
-ghost use Rattle.std.specs.Prelude.{◌≡◌, ◌<◌, ◌^◌, All, IfOk, Some, length, map, slice_get, true, vec_len};
+ghost use Rattle.std.specs.Prelude.{◌≡◌, ◌<◌, ◌^◌, All, IfOk, IsSorted, Some, length, map, slice_get, true, vec_len};
+ghost use Rattle.gx_rows.specs.Order.{edge_cmp};
 ghost use Rattle.gx_index.specs.Ids.{IsAscending, has_id};
 ghost use Rattle.gx_epart.specs.Edges.{IsEdgeOrderOf};
-ghost use Rattle.gx_epart.specs.Numbers.{HasIds, HasKnownEnds, edge_of_numbers, locals_of, sources_and_destinations};
+ghost use Rattle.gx_epart.specs.Numbers.{HasIds, HasKnownEnds, IsNumbered, edge_of_numbers, locals_of, sources_and_destinations};
 
 use crate::EPart;
 use crate::local_edge::LocalEdge;
@@ -38,7 +39,8 @@ fn ids_of_ends(alloc: Global, edges: &[(Vid, Vid, Row)]) -> Result<Vec<Vid>, NoM
     Ok(ids)
 }
 
-/// Each edge with the numbers of its ends, which are found by halving.
+/// Each edge with the numbers of its ends. A destination is found by halving, and a source too unless
+/// it is that of the edge before.
 pub fn number_ends(
     alloc: Global,
     ends: &Index,
@@ -49,10 +51,27 @@ pub fn number_ends(
     ensures in_range { IfOk result (λ es. All (HasIds ends.now) es.items) }
 {
     let mut numbered = Vec::with_capacity(alloc, edges.len())?;
+    let mut last = None;
     for (src, dst, row) in edges {
-        numbered.push((number_of(ends, src), number_of(ends, dst), row))?;
+        let source = number_after(ends, last, src);
+        numbered.push((source, number_of(ends, dst), row))?;
+        last = Some((src, source));
     }
     Ok(numbered)
+}
+
+// The number of `v`, if the last identifier and its number are these.
+fn number_after(ends: &Index, last: Option<(Vid, u32)>, v: Vid) -> u32
+    requires known { has_id v ends.now ≡ true }
+    requires numbered { IsNumbered ends.now last }
+    ensures { slice_get ends.now result ≡ Some v }
+{
+    if let Some((id, number)) = last {
+        if id == v {
+            return number;
+        }
+    }
+    number_of(ends, v)
 }
 
 fn number_of(ends: &Index, v: Vid) -> u32
@@ -77,6 +96,21 @@ pub fn sort_numbered(
     ensures { IfOk result (IsEdgeOrderOf (map (edge_of_numbers ends.value) numbered.items)) }
 {
     numbered.sort_unstable();
+    pack(alloc, ends, numbered)
+}
+
+/// The partition of edges that have numbers, which are in edge order.
+pub fn pack(
+    alloc: Global,
+    ends: Rc<Index>,
+    numbered: Vec<(u32, u32, Row)>,
+) -> Result<EPart, NoMemory>
+    requires few { vec_len numbered < 2 ^ 32 }
+    requires ascending { IsAscending ends.value }
+    requires in_range { All (HasIds ends.value) numbered.items }
+    requires sorted { IsSorted edge_cmp (map (edge_of_numbers ends.value) numbered.items) }
+    ensures { IfOk result (λ part. part ≡ map (edge_of_numbers ends.value) numbered.items) }
+{
     let (edges, rows) = split(alloc, numbered)?;
     let rows = Rc::new(alloc, rows)?;
     Ok(EPart { ends, edges, rows })
