@@ -1,5 +1,5 @@
 -- Partitions that are made of another one, whose ends or rows they share.
-use Rattle.std.proofs.Common.{◌≡◌, ℕ, ◌<◌, ◌≤◌, ◌^◌, Bool, List, All, IsSorted, IsSortedBy, IsPermutation, length, map, refl, sym, ap, ◌∙◌, arith}
+use Rattle.std.proofs.Common.{◌≡◌, ◌<◌, ◌^◌, Bool, List, All, IsSorted, IsSortedBy, IsPermutation, length, map, arith}
 use Rattle.std.specs.List.Sorted.{IsStableBy}
 use Rattle.std.specs.Ordering.{is_lt}
 use Rattle.std.proofs.lemmas.List.{length-map}

@@ -5,3 +5,4 @@ pub mod Numbered
 pub mod Orders
 pub mod Reversing
 pub mod Traversing
+pub mod Unique

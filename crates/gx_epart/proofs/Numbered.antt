@@ -1,12 +1,12 @@
 -- Edges with the numbers of their ends: one more of them, and all of them sorted.
-use Rattle.std.proofs.Common.{◌≡◌, ℕ, ◌+◌, ◌<◌, ◌^◌, IsPermutation, IsSorted, arith, List, [], ◌∷◌, ◌++◌, Some, All, get_or, length, map, refl, sym, ap, ◌∙◌, slice_get, pos}
+use Rattle.std.proofs.Common.{◌≡◌, ℕ, ◌<◌, ◌^◌, IsPermutation, IsSorted, arith, List, [], ◌∷◌, ◌++◌, Some, All, length, map, refl, slice_get, pos}
 use Rattle.std.proofs.lemmas.List.{append_assoc, map-append}
 use Rattle.std.proofs.lemmas.List.Elements.{All-push, All-tail}
 use Rattle.std.proofs.lemmas.Option.{get_or_from_slice_get, slice_get_within}
 use Rattle.gx_rows.specs.Order.{Edge, edge_cmp}
 use Rattle.gx_rows.specs.declared.value.Value.{Value}
 use Rattle.gx_rows.specs.declared.vid.Vid.{Vid}
-use Rattle.std.proofs.lemmas.List.Sorted.{All-permutation, IsPermutation-map, length_permutation}
+use Rattle.std.proofs.lemmas.List.Sorted.{All-permutation, IsPermutation-map}
 use Rattle.gx_index.specs.Ids.{IsAscending}
 use Rattle.gx_epart.specs.declared.local_edge.LocalEdge.{LocalEdge}
 use Rattle.gx_epart.specs.Edges.{IsEdgeOrderOf}

@@ -1,27 +1,23 @@
 -- The order of edges, and what keeps it.
 use Rattle.std.specs.Prelude.{⊤}
-use Rattle.std.proofs.Common.{◌≡◌, ℕ, zero, suc, ◌+◌, ◌<◌, ◌≤◌, Bool, true, false, cond, List, [], ◌∷◌, All, IsSorted, IsSortedBy, IsSortedByKey, IsPermutation, get_or, length, map, refl, sym, ap, ◌∙◌, subst, arith, pos}
-use Rattle.std.specs.Cmp.{IsTotalOrder, IsStrictWeakOrder}
-use Rattle.std.specs.Cmp.Lexicographic.{slice_cmp}
+use Rattle.std.proofs.Common.{◌≡◌, ℕ, zero, suc, ◌+◌, ◌<◌, ◌≤◌, Bool, true, false, List, [], ◌∷◌, All, IsSorted, IsSortedBy, get_or, length, map, refl, ap, ◌∙◌, arith, pos}
+use Rattle.std.specs.Cmp.{IsStrictWeakOrder}
 use Rattle.std.specs.List.{AllByRecursion}
-use Rattle.std.specs.List.Sorted.{IsStableBy, ties}
 use Rattle.std.specs.Ordering.{MatchOrdering, nat_cmp, is_lt, ordering_reverse, ordering_then, on, then_cmp}
 use Rattle.std.specs.declared.cmp.Ordering.{Ordering}
 use Rattle.std.specs.declared.cmp.Ordering.TheVariants.{Less, Equal, Greater}
-use Rattle.std.proofs.lemmas.Bool.{cases_lt}
 use Rattle.std.proofs.lemmas.Cmp.{ranked, tied_itself}
 use Rattle.std.proofs.lemmas.List.{get_or-map, length-map}
 use Rattle.std.proofs.lemmas.List.Elements.{All-from_recursion, recursion_from_All}
 use Rattle.std.proofs.lemmas.List.MinMax.{ranks_by}
-use Rattle.std.proofs.lemmas.List.Sorted.{ties_stay_sorted, sorted_far}
+use Rattle.std.proofs.lemmas.List.Sorted.{sorted_far}
 use Rattle.std.proofs.lemmas.Map.Keys.{Less-from_sorted}
 use Rattle.gx_rows.specs.Order.{Edge, edge_cmp, edge_cmp-total, row_cmp}
 use Rattle.gx_rows.specs.declared.value.Value.{Value}
 use Rattle.gx_rows.specs.declared.vid.Vid.{Vid}
 use Rattle.gx_index.specs.Ids.{IsAscending, id_cmp, id_cmp-total}
-use Rattle.gx_epart.specs.Edges.{edges_kept, reversed_edge}
-use Rattle.gx_epart.specs.declared.local_edge.LocalEdge.{LocalEdge}
-use Rattle.gx_epart.specs.Numbers.{HasIds, IsInRange, edge_of_local, edge_of_numbers, edges_of_locals, id_of_number, reversed_local}
+use Rattle.gx_epart.specs.Edges.{edges_kept}
+use Rattle.gx_epart.specs.Numbers.{HasIds, edge_of_numbers, id_of_number}
 
 -- ---- numbers are in the order of their identifiers
 
@@ -94,7 +90,7 @@ map-kept f (x ∷ xs) (true ∷ keeps) = ap (λ ys. f x ∷ ys) (map-kept f xs k
 map-kept f (x ∷ xs) (false ∷ keeps) = map-kept f xs keeps
 
 -- no item is less than any before it
-abbrev Rises : {X : Type 0} → (X → X → Bool) → List X → Type 0
+abbrev pub Rises : {X : Type 0} → (X → X → Bool) → List X → Type 0
 Rises lt [] = ⊤
 Rises lt (x ∷ xs) = AllByRecursion (λ y. lt y x ≡ false) xs × Rises lt xs
 
@@ -114,7 +110,7 @@ sorted-tail lt x xs sorted k d low high =
     let second : get_or (x ∷ xs) (k + 1 + 1) d ≡ get_or xs (k + 1) d = ap (λ n. get_or (x ∷ xs) n d) two in
     rw (first, second) at at
 
-Rises-from_sorted : {X : Type 0} (lt : X → X → Bool) → IsStrictWeakOrder lt → (xs : List X) → IsSortedBy lt xs → Rises lt xs
+pub Rises-from_sorted : {X : Type 0} (lt : X → X → Bool) → IsStrictWeakOrder lt → (xs : List X) → IsSortedBy lt xs → Rises lt xs
 Rises-from_sorted lt order [] sorted = tt
 Rises-from_sorted lt order (x ∷ xs) sorted = (
   recursion_from_All (λ y. lt y x ≡ false) xs (λ k d within. sorted_far lt order (x ∷ xs) sorted 0 (suc k) d (omega arith) (omega arith)),

@@ -1,7 +1,7 @@
 -- A stable sort of reversed edges by their ends puts them in edge order.
-use Rattle.std.proofs.Common.{◌≡◌, ℕ, zero, suc, ◌+◌, ◌<◌, Bool, true, false, List, [], ◌∷◌, All, IsSorted, IsSortedBy, get_or, length, map, refl, sym, ap, ◌∙◌, arith, pos}
+use Rattle.std.proofs.Common.{◌≡◌, ◌+◌, ◌<◌, Bool, false, List, All, IsSorted, IsSortedBy, get_or, length, map, refl, arith}
 use Rattle.std.specs.Cmp.{IsTotalOrder}
-use Rattle.std.specs.List.Sorted.{IsStableBy, ties}
+use Rattle.std.specs.List.Sorted.{IsStableBy}
 use Rattle.std.specs.Ordering.{nat_cmp, is_lt, ordering_then}
 use Rattle.std.specs.declared.cmp.Ordering.{Ordering}
 use Rattle.std.specs.declared.cmp.Ordering.TheVariants.{Less, Equal, Greater}

@@ -1,5 +1,6 @@
 -- Lists of edges, and what each operator makes of one.
-use Rattle.std.specs.Prelude.{◌≡◌, ℕ, ℤ, pos, Bool, true, false, List, [], ◌∷◌, IsPermutation, IsSorted, map, refl}
+use Rattle.std.specs.Prelude.{◌≡◌, ℕ, pos, Bool, true, false, cond, List, [], ◌∷◌, IsPermutation, IsSorted, map, refl}
+use Rattle.std.specs.Ordering.{is_lt}
 use Rattle.gx_rows.specs.Order.{Edge, edge_cmp}
 use Rattle.gx_rows.specs.declared.row_key.RowKey.{RowKey}
 use Rattle.gx_rows.specs.declared.row_key.RowKey.TheVariants as row_key
@@ -11,6 +12,16 @@ use Rattle.gx_rows.specs.declared.vid.Vid.{Vid}
 pub record IsEdgeOrderOf (edges ordered : List Edge) : Type 0 where
   pub same : IsPermutation edges ordered
   pub sorted : IsSorted edge_cmp ordered
+
+-- the list with one more edge, before the first that is greater
+abbrev pub with_edge : Edge → List Edge → List Edge
+with_edge e [] = e ∷ []
+with_edge e (f ∷ edges) = cond (is_lt (edge_cmp e f)) (e ∷ f ∷ edges) (f ∷ with_edge e edges)
+
+-- the one list in edge order with these edges
+abbrev pub edge_order_of : List Edge → List Edge
+edge_order_of [] = []
+edge_order_of (e ∷ edges) = with_edge e (edge_order_of edges)
 
 -- source and destination of an edge
 abbrev pub ends_of_edge : Edge → Vid × Vid
@@ -45,6 +56,11 @@ edges_kept (e ∷ edges) (true ∷ keeps) = e ∷ edges_kept edges keeps
 edges_kept (e ∷ edges) (false ∷ keeps) = edges_kept edges keeps
 
 -- ---- examples
+
+-- the edge from 1 to 2 with 6 is after that with 4, and before the edge from 2
+edge_order_of-example : edge_order_of ((record { 0 = pos 2 }, record { 0 = pos 3 }, Int (pos 1) ∷ []) ∷ (record { 0 = pos 1 }, record { 0 = pos 2 }, Int (pos 6) ∷ []) ∷ (record { 0 = pos 1 }, record { 0 = pos 2 }, Int (pos 4) ∷ []) ∷ [])
+    ≡ (record { 0 = pos 1 }, record { 0 = pos 2 }, Int (pos 4) ∷ []) ∷ (record { 0 = pos 1 }, record { 0 = pos 2 }, Int (pos 6) ∷ []) ∷ (record { 0 = pos 2 }, record { 0 = pos 3 }, Int (pos 1) ∷ []) ∷ []
+edge_order_of-example = refl
 
 reversed_edges-example : reversed_edges ((record { 0 = pos 1 }, record { 0 = pos 2 }, Int (pos 4) ∷ []) ∷ []) ≡ (record { 0 = pos 2 }, record { 0 = pos 1 }, Int (pos 4) ∷ []) ∷ []
 reversed_edges-example = refl

@@ -10,6 +10,7 @@
 #![tactic(auto)]
 
 mod epart;
+mod laws;
 mod local_edge;
 mod numbering;
 #[cfg(test)]
@@ -17,3 +18,4 @@ mod tests;
 mod traverse;
 
 pub use epart::EPart;
+pub use laws::edge_order_is_unique;

@@ -1,6 +1,6 @@
 //! Parallel edges, equal ones, a self loop, no edge, and both extremes of identifiers.
 
-use crate::EPart;
+use crate::{EPart, edge_order_is_unique};
 use gx_rows::{Cause, EvalStop, PartStop, Row, RowKey, Value, Vid};
 use std::alloc::Global;
 use std::process::Abort;
@@ -69,6 +69,7 @@ fn sorts_and_reverses(rt: HostRuntime) -> Result<(), Fail> {
     assert_sorted(&rt, rt.alloc(), &loops, &loops, &loops)?;
     assert_sorted(&rt, rt.alloc(), &[], &[], &[])?;
 
+    edge_order_is_unique();
     let edges = [(i64::MAX, i64::MIN, 2), (i64::MIN, i64::MAX, 1)];
     let sorted = [(i64::MIN, i64::MAX, 1), (i64::MAX, i64::MIN, 2)];
     let reversed = [(i64::MIN, i64::MAX, 2), (i64::MAX, i64::MIN, 1)];

@@ -1,4 +1,4 @@
-use Rattle.std.proofs.Common.{◌≡◌, ◌++◌, length, map, All}
+use Rattle.std.proofs.Common.{◌≡◌, ◌++◌, map, All}
 use Rattle.std.specs.Vec.Iter.{into_iter_items}
 use Rattle.gx_epart.specs.Numbers.{HasIds, HasKnownEnds, IsNumbered, edge_of_numbers}
 use Rattle.gx_epart.proofs.numbering.number_ends.Given as goal
@@ -8,5 +8,5 @@ abbrev pub invariant-loop-src : goal.invariant-loop-src
 invariant-loop-src l =
     IsNumbered l.ends l.last
     × ((map (edge_of_numbers l.ends) l.numbered.items ++ into_iter_items l.src-iterator ≡ l.fn.edges.items)
-      × All (HasIds l.ends) l.numbered.items
-      × All (HasKnownEnds l.ends) (into_iter_items l.src-iterator))
+    × All (HasIds l.ends) l.numbered.items
+    × All (HasKnownEnds l.ends) (into_iter_items l.src-iterator))

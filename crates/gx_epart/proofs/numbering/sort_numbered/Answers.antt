@@ -18,6 +18,6 @@ pack-requires-clause-sorted c =
 pub returns : goal.returns
 returns c =
     let ordered = IsEdgeOrderOf-ordered c.args.ends.value c.args.numbered.items c.sort_unstable.new.self.items c.requires.ascending c.requires.in_range
-            c.sort_unstable.ensures.permutation c.sort_unstable.ensures.sorted in
+    c.sort_unstable.ensures.permutation c.sort_unstable.ensures.sorted in
     IfOk-weaker c.pack.result _ (IsEdgeOrderOf (map (edge_of_numbers c.args.ends.value) c.args.numbered.items))
     (λ part same. subst (IsEdgeOrderOf (map (edge_of_numbers c.args.ends.value) c.args.numbered.items)) (sym same) ordered) c.pack.ensures

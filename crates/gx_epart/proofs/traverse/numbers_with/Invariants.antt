@@ -1,4 +1,4 @@
-use Rattle.std.proofs.Common.{◌≡◌, ◌++◌, length}
+use Rattle.std.proofs.Common.{◌≡◌, ◌++◌}
 use Rattle.std.specs.Vec.Iter.{into_iter_items}
 use Rattle.gx_epart.specs.Numbers.{numbers_with_rows}
 use Rattle.gx_epart.proofs.traverse.numbers_with.Given as goal

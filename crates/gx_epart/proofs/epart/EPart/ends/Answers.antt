@@ -1,4 +1,3 @@
-use Rattle.std.proofs.Common.{rules}
 use Rattle.std.proofs.lemmas.List.{append_assoc}
 use Rattle.gx_epart.proofs.Traversing.{drop-at}
 use Rattle.gx_epart.proofs.epart.EPart.ends.Goals as goal
