@@ -1,0 +1,16 @@
+use Rattle.std.proofs.Common.{All, subst, sym}
+use Rattle.std.proofs.lemmas.Result.{IfOk-weaker}
+use Rattle.gx_index.specs.Ids.{HasDistinctIds-from_ascending}
+use Rattle.gx_epart.specs.Numbers.{HasKnownEnds}
+use Rattle.gx_epart.proofs.Ends.{HasKnownEnds-set}
+use Rattle.gx_epart.proofs.numbering.index_of_ends.Goals as goal
+
+pub of-requires-2-clause-distinct : goal.of-requires-2-clause-distinct
+of-requires-2-clause-distinct c = rw c.ids-2.ensures.exact (HasDistinctIds-from_ascending _ c.ids-2.ensures.ascending)
+
+pub returns-clause-all_ends : goal.returns-clause-all_ends
+returns-clause-all_ends c =
+    let all = HasKnownEnds-set c.as_slice.result.now c.in_ok-set.set c.args.edges.now (rw c.as_slice.ensures.value c.in_ok-ids.ensures) c.in_ok-set.ensures in
+    let known : All (HasKnownEnds c.ids-2.result.now) c.args.edges.now = rw c.ids-2.ensures.exact all in
+    IfOk-weaker c.of-2.result _ (λ ends. All (HasKnownEnds ends) c.args.edges.now)
+    (λ index same. subst (λ ids. All (HasKnownEnds ids) c.args.edges.now) (sym same) known) c.of-2.ensures

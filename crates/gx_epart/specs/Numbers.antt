@@ -1,0 +1,72 @@
+-- Edges by numbers: an end by its position among the ends, a row by its position among the rows.
+use Rattle.std.specs.Prelude.{◌≡◌, ℕ, pos, ◌+◌, ◌<◌, ◌^◌, true, List, [], ◌∷◌, All, IsSorted, length, map, Option, Some, None, ⊤, refl, slice_get, slice_index_or}
+use Rattle.gx_rows.specs.Order.{Edge, edge_cmp}
+use Rattle.gx_rows.specs.declared.value.Value.{Value}
+use Rattle.gx_rows.specs.declared.vid.Vid.{Vid}
+use Rattle.gx_index.specs.Ids.{IsAscending, has_id}
+use Rattle.gx_epart.specs.declared.local_edge.LocalEdge.{LocalEdge}
+
+-- the identifier of a number
+abbrev pub id_of_number : List Vid → ℕ → Vid
+id_of_number ids n = slice_index_or ids n (record { 0 = pos 0 })
+
+-- an edge whose ends are numbers
+abbrev pub edge_of_numbers : List Vid → ℕ × ℕ × List Value → Edge
+edge_of_numbers ids e = (id_of_number ids e.0, id_of_number ids e.1, e.2)
+
+-- an edge whose ends and row are numbers
+abbrev pub edge_of_local : List Vid → List (List Value) → LocalEdge → Edge
+edge_of_local ids rows e = (id_of_number ids e.src, id_of_number ids e.dst, slice_index_or rows e.row [])
+
+abbrev pub edges_of_locals : List Vid → List (List Value) → List LocalEdge → List Edge
+edges_of_locals ids rows locals = map (edge_of_local ids rows) locals
+
+-- both ends have an identifier
+abbrev pub HasIds : {R : Type 0} → List Vid → ℕ × ℕ × R → Type 0
+HasIds ids e = (e.0 < length ids) × (e.1 < length ids)
+
+-- both ends have an identifier, and the row is there
+abbrev pub IsInRange : List Vid → List (List Value) → LocalEdge → Type 0
+IsInRange ids rows e = (e.src < length ids) × (e.dst < length ids) × (e.row < length rows)
+
+-- source and destination of each edge
+abbrev pub sources_and_destinations : List Edge → List Vid
+sources_and_destinations [] = []
+sources_and_destinations (e ∷ edges) = e.0 ∷ e.1 ∷ sources_and_destinations edges
+
+-- both ends are among the identifiers
+abbrev pub HasKnownEnds : List Vid → Edge → Type 0
+HasKnownEnds ids e = (has_id e.0 ids ≡ true) × (has_id e.1 ids ≡ true)
+
+-- the number, if there is one, is that of the identifier beside it
+abbrev pub IsNumbered : List Vid → Option (Vid × ℕ) → Type 0
+IsNumbered ids None = ⊤
+IsNumbered ids (Some last) = slice_get ids last.1 ≡ Some last.0
+
+-- the ends of each edge, with the position of its row, from position n on
+abbrev pub locals_from : {R : Type 0} → ℕ → List (ℕ × ℕ × R) → List LocalEdge
+locals_from n [] = []
+locals_from n (e ∷ edges) = record { src = e.0; dst = e.1; row = n } ∷ locals_from (n + 1) edges
+
+abbrev pub locals_of : {R : Type 0} → List (ℕ × ℕ × R) → List LocalEdge
+locals_of edges = locals_from 0 edges
+
+-- the ends of each edge, with a new row
+abbrev pub numbers_with_rows : {R : Type 0} → List LocalEdge → List R → List (ℕ × ℕ × R)
+numbers_with_rows edges [] = []
+numbers_with_rows [] (row ∷ rows) = []
+numbers_with_rows (e ∷ edges) (row ∷ rows) = (e.src, e.dst, row) ∷ numbers_with_rows edges rows
+
+-- source and destination exchanged
+abbrev pub reversed_local : LocalEdge → LocalEdge
+reversed_local e = record { src = e.dst; dst = e.src; row = e.row }
+
+-- the numbers are those of edges in order
+pub record HasEdges (ids : List Vid) (rows : List (List Value)) (locals : List LocalEdge) : Type 0 where
+  pub few : length locals < 2 ^ 32
+  pub ascending : IsAscending ids
+  pub in_range : All (IsInRange ids rows) locals
+  pub sorted : IsSorted edge_cmp (edges_of_locals ids rows locals)
+
+edges_of_locals-example : edges_of_locals (record { 0 = pos 7 } ∷ record { 0 = pos 9 } ∷ []) ([] ∷ []) (record { src = 1; dst = 0; row = 0 } ∷ []) ≡ (record { 0 = pos 9 }, record { 0 = pos 7 }, []) ∷ []
+edges_of_locals-example = refl

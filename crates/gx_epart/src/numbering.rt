@@ -1,0 +1,140 @@
+//! From edges to numbers, and to the order of edges.
+
+ghost use Rattle.std.specs.Prelude.{◌≡◌, ◌<◌, ◌^◌, All, IfOk, IsSorted, Some, length, map, slice_get, true, vec_len};
+ghost use Rattle.gx_rows.specs.Order.{edge_cmp};
+ghost use Rattle.gx_index.specs.Ids.{IsAscending, has_id};
+ghost use Rattle.gx_epart.specs.Edges.{IsEdgeOrderOf};
+ghost use Rattle.gx_epart.specs.Numbers.{HasIds, HasKnownEnds, IsNumbered, edge_of_numbers, locals_of, sources_and_destinations};
+
+use crate::EPart;
+use crate::local_edge::LocalEdge;
+use gx_index::{IdSet, Index};
+use gx_rows::{NoMemory, Row, Vid};
+use std::alloc::Global;
+use std::rc::Rc;
+
+/// The distinct ends of edges in ascending order.
+pub fn index_of_ends(alloc: Global, edges: &[(Vid, Vid, Row)]) -> Result<Index, NoMemory>
+    ensures ascending { IfOk result (λ ends. IsAscending ends) }
+    ensures all_ends { IfOk result (λ ends. All (HasKnownEnds ends) edges.now) }
+{
+    let ids = ids_of_ends(alloc, edges)?;
+    let set = IdSet::of(alloc, ids.as_slice())?;
+    if set.ids().len() > u32::MAX as usize {
+        return Err(NoMemory);
+    }
+    Index::of(alloc, set.ids())
+}
+
+fn ids_of_ends(alloc: Global, edges: &[(Vid, Vid, Row)]) -> Result<Vec<Vid>, NoMemory>
+    ensures { IfOk result (λ ids. ids.items ≡ sources_and_destinations edges.now) }
+{
+    let mut ids = Vec::new(alloc);
+    let mut rest = edges;
+    while let [edge, after @ ..] = rest {
+        ids.push(edge.0)?;
+        ids.push(edge.1)?;
+        rest = after;
+    }
+    Ok(ids)
+}
+
+/// Each edge with the numbers of its ends. A destination is found by halving, and a source too unless
+/// it is that of the edge before.
+pub fn number_ends(
+    alloc: Global,
+    ends: &Index,
+    edges: Vec<(Vid, Vid, Row)>,
+) -> Result<Vec<(u32, u32, Row)>, NoMemory>
+    requires { All (HasKnownEnds ends.now) edges.items }
+    ensures numbers { IfOk result (λ es. map (edge_of_numbers ends.now) es.items ≡ edges.items) }
+    ensures in_range { IfOk result (λ es. All (HasIds ends.now) es.items) }
+{
+    let mut numbered = Vec::with_capacity(alloc, edges.len())?;
+    let mut last = None;
+    for (src, dst, row) in edges {
+        let source = number_after(ends, last, src);
+        numbered.push((source, number_of(ends, dst), row))?;
+        last = Some((src, source));
+    }
+    Ok(numbered)
+}
+
+// The number of `v`, if the last identifier and its number are these.
+fn number_after(ends: &Index, last: Option<(Vid, u32)>, v: Vid) -> u32
+    requires known { has_id v ends.now ≡ true }
+    requires numbered { IsNumbered ends.now last }
+    ensures { slice_get ends.now result ≡ Some v }
+{
+    if let Some((id, number)) = last {
+        if id == v {
+            return number;
+        }
+    }
+    number_of(ends, v)
+}
+
+fn number_of(ends: &Index, v: Vid) -> u32
+    requires { has_id v ends.now ≡ true }
+    ensures { slice_get ends.now result ≡ Some v }
+{
+    match ends.find(v) {
+        Some(number) => number,
+        None => unreachable!(),
+    }
+}
+
+/// The partition of edges that have numbers, which are in any order.
+pub fn sort_numbered(
+    alloc: Global,
+    ends: Rc<Index>,
+    mut numbered: Vec<(u32, u32, Row)>,
+) -> Result<EPart, NoMemory>
+    requires few { vec_len numbered < 2 ^ 32 }
+    requires ascending { IsAscending ends.value }
+    requires in_range { All (HasIds ends.value) numbered.items }
+    ensures { IfOk result (IsEdgeOrderOf (map (edge_of_numbers ends.value) numbered.items)) }
+{
+    numbered.sort_unstable();
+    pack(alloc, ends, numbered)
+}
+
+/// The partition of edges that have numbers, which are in edge order.
+pub fn pack(
+    alloc: Global,
+    ends: Rc<Index>,
+    numbered: Vec<(u32, u32, Row)>,
+) -> Result<EPart, NoMemory>
+    requires few { vec_len numbered < 2 ^ 32 }
+    requires ascending { IsAscending ends.value }
+    requires in_range { All (HasIds ends.value) numbered.items }
+    requires sorted { IsSorted edge_cmp (map (edge_of_numbers ends.value) numbered.items) }
+    ensures { IfOk result (λ part. part ≡ map (edge_of_numbers ends.value) numbered.items) }
+{
+    let (edges, rows) = split(alloc, numbered)?;
+    let rows = Rc::new(alloc, rows)?;
+    Ok(EPart { ends, edges, rows })
+}
+
+// The rows in the same order, and each edge with the position of its row.
+fn split(
+    alloc: Global,
+    numbered: Vec<(u32, u32, Row)>,
+) -> Result<(Vec<LocalEdge>, Vec<Row>), NoMemory>
+    requires { vec_len numbered < 2 ^ 32 }
+    ensures edges { IfOk result (λ both. both.0.items ≡ locals_of numbered.items) }
+    ensures rows { IfOk result (λ both. both.1.items ≡ map (λ e. e.2) numbered.items) }
+{
+    let mut edges = Vec::with_capacity(alloc, numbered.len())?;
+    let mut rows = Vec::with_capacity(alloc, numbered.len())?;
+    for (src, dst, row) in numbered {
+        let position = rows.len() as u32;
+        edges.push(LocalEdge {
+            src,
+            dst,
+            row: position,
+        })?;
+        rows.push(row)?;
+    }
+    Ok((edges, rows))
+}

@@ -1,0 +1,143 @@
+//! Parallel edges, equal ones, a self loop, no edge, and both extremes of identifiers.
+
+use crate::{EPart, edge_order_is_unique};
+use gx_rows::{Cause, EvalStop, PartStop, Row, RowKey, Value, Vid};
+use std::alloc::Global;
+use std::process::Abort;
+use std::test::Fail;
+
+// Each edge is a source, a destination and the one number of its row.
+fn part_of(rt: &impl Abort, alloc: Global, edges: &[(i64, i64, i64)]) -> Result<EPart, Fail> {
+    let mut list = Vec::new(alloc);
+    for (src, dst, number) in edges {
+        list.push((Vid(*src), Vid(*dst), Row::one(Value::Int(*number))))?;
+    }
+    assert!(rt; list.len() < 10);
+    Ok(EPart::from_edges(alloc, list)?)
+}
+
+fn number_in(row: &Row) -> i64 {
+    match row.get(0) {
+        Some(Value::Int(number)) => *number,
+        _ => i64::MIN,
+    }
+}
+
+fn assert_edges(rt: &impl Abort, part: &EPart, expected: &[(i64, i64, i64)]) {
+    assert_eq!(rt; part.len() as usize, expected.len());
+    for i in 0..part.len() {
+        let (src, dst, row) = part.edge(i);
+        let edge = (src.0, dst.0, number_in(row));
+        assert_eq!(rt; Some(&edge), expected.get(i as usize));
+    }
+}
+
+// An end is an identifier, whether it is a source and whether it is a destination.
+fn assert_ends(rt: &impl Abort, part: &EPart, expected: &[(i64, bool, bool)]) -> Result<(), Fail> {
+    let ends = part.ends()?;
+    assert_eq!(rt; ends.list().len(), expected.len());
+    for (end, expected) in ends.list().iter().zip(expected) {
+        let found = (end.0.0, end.1.src, end.1.dst);
+        assert_eq!(rt; found, *expected);
+    }
+    Ok(())
+}
+
+fn assert_sorted(
+    rt: &impl Abort,
+    alloc: Global,
+    edges: &[(i64, i64, i64)],
+    sorted: &[(i64, i64, i64)],
+    reversed: &[(i64, i64, i64)],
+) -> Result<(), Fail> {
+    let part = part_of(rt, alloc, edges)?;
+    assert_edges(rt, &part, sorted);
+    assert_edges(rt, &part.reverse()?, reversed);
+    Ok(())
+}
+
+#[test]
+fn sorts_and_reverses(rt: HostRuntime) -> Result<(), Fail> {
+    let edges = [(1, 2, 4), (2, 3, 1), (3, 1, 7), (1, 2, 6)];
+    let sorted = [(1, 2, 4), (1, 2, 6), (2, 3, 1), (3, 1, 7)];
+    let reversed = [(1, 3, 7), (2, 1, 4), (2, 1, 6), (3, 2, 1)];
+    assert_sorted(&rt, rt.alloc(), &edges, &sorted, &reversed)?;
+
+    let equal = [(5, 6, 1), (5, 6, 1)];
+    assert_sorted(&rt, rt.alloc(), &equal, &equal, &[(6, 5, 1), (6, 5, 1)])?;
+    let loops = [(9, 9, 1)];
+    assert_sorted(&rt, rt.alloc(), &loops, &loops, &loops)?;
+    assert_sorted(&rt, rt.alloc(), &[], &[], &[])?;
+
+    edge_order_is_unique();
+    let edges = [(i64::MAX, i64::MIN, 2), (i64::MIN, i64::MAX, 1)];
+    let sorted = [(i64::MIN, i64::MAX, 1), (i64::MAX, i64::MIN, 2)];
+    let reversed = [(i64::MIN, i64::MAX, 2), (i64::MAX, i64::MIN, 1)];
+    assert_sorted(&rt, rt.alloc(), &edges, &sorted, &reversed)
+}
+
+#[test]
+fn maps_and_filters(rt: HostRuntime) -> Result<(), Fail> {
+    let edges = [(1, 2, 4), (2, 3, 1), (3, 1, 7), (1, 2, 6)];
+    let part = part_of(&rt, rt.alloc(), &edges)?;
+    let ends = [(1, true, true), (2, true, true), (3, true, true)];
+    assert_ends(&rt, &part, &ends)?;
+
+    // The rows of the parallel edges change their order.
+    let mapped = part.map(|_, _, row| Ok(Row::one(Value::Int(10i64.wrapping_sub(number_in(row))))));
+    let expected = [(1, 2, 4), (1, 2, 6), (2, 3, 9), (3, 1, 3)];
+    match mapped {
+        Ok(mapped) => assert_edges(&rt, &mapped, &expected),
+        Err(_) => assert!(&rt; false),
+    }
+
+    let filtered = part.filter(|_, _, row| Ok(number_in(row) > 5));
+    match filtered {
+        Ok(filtered) => {
+            assert_edges(&rt, &filtered, &[(1, 2, 6), (3, 1, 7)]);
+            let ends = [(1, true, true), (2, false, true), (3, true, false)];
+            assert_ends(&rt, &filtered, &ends)
+        }
+        Err(_) => {
+            assert!(&rt; false);
+            Ok(())
+        }
+    }
+}
+
+// Of the edges with 6 and 7, that with 6 comes first in edge order, though it was given last.
+#[test]
+fn faults_on_the_first_edge(rt: HostRuntime) -> Result<(), Fail> {
+    let edges = [(1, 2, 4), (2, 3, 1), (3, 1, 7), (1, 2, 6)];
+    let part = part_of(&rt, rt.alloc(), &edges)?;
+    let stop = EvalStop::Fault {
+        cause: Cause::Overflow,
+        expr: 3,
+    };
+    let mapped = part.map(|_, _, row| if number_in(row) > 5 {
+        Err(stop)
+    } else {
+        Ok(Row::one(Value::Int(0)))
+    });
+    assert_fault(&rt, mapped);
+    let filtered = part.filter(|_, _, row| if number_in(row) > 5 {
+        Err(stop)
+    } else {
+        Ok(true)
+    });
+    assert_fault(&rt, filtered);
+    Ok(())
+}
+
+fn assert_fault(rt: &impl Abort, returned: Result<EPart, PartStop>) {
+    let key = RowKey::Edge(Vid(1), Vid(2), Row::one(Value::Int(6)));
+    let fault = PartStop::Fault {
+        key,
+        expr: 3,
+        cause: Cause::Overflow,
+    };
+    match returned {
+        Ok(_) => assert!(rt; false),
+        Err(stop) => assert_eq!(rt; stop, fault),
+    }
+}

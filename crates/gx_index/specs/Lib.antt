@@ -1,0 +1,5 @@
+pub mod Ends
+pub mod Ids
+pub mod Merging
+pub mod Searching
+pub mod Slots

@@ -1,0 +1,22 @@
+-- A list that is cut into chunks of one size.
+use Rattle.std.specs.Prelude.{◌≡◌, ℕ, ◌≤◌, List, [], ◌∷◌, ◌++◌, length, map, ⊤, refl, Vec}
+use Rattle.std.specs.Global.{Global}
+use Rattle.std.specs.declared.rc.Rc.{Rc}
+
+-- the items of the chunks, in order
+abbrev pub items_of_chunks : {A : Type 0} → List (List A) → List A
+items_of_chunks [] = []
+items_of_chunks (c ∷ cs) = c ++ items_of_chunks cs
+
+-- each chunk but the last has `size` items, and the last has no more
+abbrev pub HasChunksOf : {A : Type 0} → ℕ → List (List A) → Type 0
+HasChunksOf size [] = ⊤
+HasChunksOf size (c ∷ []) = length c ≤ size
+HasChunksOf size (c ∷ d ∷ cs) = (length c ≡ size) × HasChunksOf size (d ∷ cs)
+
+-- the items of shared vectors
+abbrev pub shared_chunks : {A : Type 0} → List (Rc (Vec A Global) Global) → List (List A)
+shared_chunks chunks = map (λ c. c.value.items) chunks
+
+items_of_chunks-example : items_of_chunks ((1 ∷ 2 ∷ []) ∷ (3 ∷ []) ∷ []) ≡ 1 ∷ 2 ∷ 3 ∷ []
+items_of_chunks-example = refl

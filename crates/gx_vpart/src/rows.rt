@@ -1,0 +1,45 @@
+//! Rows by slot, in chunks of 32 that are shared.
+
+ghost use Rattle.std.specs.Prelude.{◌≡◌, ◌+◌, ◌∷◌, ◌<◌, ◌≤◌, ◌^◌, IfOk, List, [], length, slice_get, vec_len};
+ghost use Rattle.std.specs.Option.{option_copied};
+
+use gx_rows::{NoMemory, Row};
+use std::alloc::Global;
+use std::marker::Model;
+use std::rc::Rc;
+
+/// Rows by slot. Contracts see their list.
+#[derive(Drop)]
+pub struct Rows {
+    chunks: Vec<Rc<Vec<Row>>>,
+}
+
+impl Model for Rows {
+    ghost use Rattle.std.specs.Prelude.{List};
+    ghost use Rattle.gx_rows.specs.declared.value.Value.{Value as Cell};
+    ghost use Rattle.gx_vpart.specs.Chunks.{HasChunksOf, items_of_chunks, shared_chunks};
+
+    ghost Value = { List (List Cell) };
+
+    ghost view = { λ r. items_of_chunks (shared_chunks r.chunks.items) };
+
+    ghost invariant = { λ r. HasChunksOf 32 (shared_chunks r.chunks.items) };
+}
+
+impl Rows {
+    /// The row of a slot; `None` exactly if there is no such slot.
+    pub fn get(&self, slot: u32) -> Option<&Row>
+        ensures { option_copied result ≡ slice_get self.now slot }
+    {
+        match item(self.chunks.as_slice(), slot / 32) {
+            Some(chunk) => item(chunk.as_slice(), slot % 32),
+            None => None,
+        }
+    }
+}
+
+fn item<T>(items: &[T], i: u32) -> Option<&T>
+    ensures { option_copied result ≡ slice_get items.now i }
+{
+    items.get(i as usize)
+}
