@@ -32,5 +32,5 @@ spread_rows blank (false ∷ mask) rows = blank ∷ spread_rows blank mask rows
 spread_rows blank (true ∷ mask) [] = blank ∷ spread_rows blank mask []
 spread_rows blank (true ∷ mask) (r ∷ rows) = r ∷ spread_rows blank mask rows
 
-masked_rows-example : masked_rows (false ∷ true ∷ []) (record { 0 = pos 4 } ∷ record { 0 = pos 9 } ∷ []) (10 ∷ 20 ∷ []) ≡ (record { 0 = pos 9 }, 20) ∷ []
+masked_rows-example : masked_rows {R = ℕ} (false ∷ true ∷ []) (record { 0 = pos 4 } ∷ record { 0 = pos 9 } ∷ []) (10 ∷ 20 ∷ []) ≡ (record { 0 = pos 9 }, 20) ∷ []
 masked_rows-example = refl

@@ -9,4 +9,10 @@
 #![tactic(auto)]
 
 mod rows;
+mod rows_builder;
+mod vpart;
+mod vrows;
+
+pub use vpart::VPart;
+pub use vrows::VRows;
 
