@@ -1,1 +1,4 @@
 pub mod Chunks
+pub mod MaskedRows
+pub mod Progress
+pub mod Spreading

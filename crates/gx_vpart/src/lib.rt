@@ -10,6 +10,7 @@
 
 mod rows;
 mod rows_builder;
+mod slots;
 mod vpart;
 mod vrows;
 

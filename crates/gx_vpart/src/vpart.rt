@@ -42,7 +42,9 @@ impl VPart {
     pub fn row(&self, v: Vid) -> Option<&Row>
         ensures { option_copied result ≡ row_of v self.now }
     {
-        let slot = self.index.find(v)?;
+        let Some(slot) = self.index.find(v) else {
+            return None;
+        };
         if self.mask.test(slot) {
             self.rows.get(slot)
         } else {

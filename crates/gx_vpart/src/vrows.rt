@@ -54,9 +54,13 @@ impl<'a> Iterator for VRows<'a> {
     ghost remaining = { item_count (λ rest. rest) };
 
     fn next(&mut self) -> Option<(Vid, &'a Row)> {
-        let slot = self.mask.next_set(self.slot)?;
+        let Some(slot) = self.mask.next_set(self.slot) else {
+            return None;
+        };
         let rows = self.rows;
-        let row = rows.get(slot)?;
+        let Some(row) = rows.get(slot) else {
+            return None;
+        };
         self.slot = slot + 1;
         Some((self.ids[slot as usize], row))
     }
