@@ -1,6 +1,6 @@
 -- Items spread over the slots of a mask.
 use Rattle.std.proofs.Common.{◌≡◌, ℕ, zero, suc, ◌+◌, ◌-◌, ◌<◌, ◌≤◌, Bool, true, false, cond, List, [], ◌∷◌, ◌++◌, Option, Some, None, length, drop, map, replicate, slice_get, set, refl, sym, ap, ◌∙◌, arith, append_assoc, length-append, length-drop, zip}
-use Rattle.std.specs.Map.{keys_of}
+use Rattle.std.specs.Map.{keys_of, values_of}
 use Rattle.std.proofs.lemmas.List.{append-nil, set-append_right}
 use Rattle.gx_rows.specs.declared.vid.Vid.{Vid}
 use Rattle.gx_vpart.specs.Operators.{picked, with_rows}
@@ -97,3 +97,15 @@ masked_rows-spread blank (true ∷ mask) (v ∷ ids) (r ∷ rows) (s ∷ items) 
 pub length-spread_items : {A : Type 0} (blank : A) (mask : List Bool) (items : List A) → length (spread_items blank mask items) ≡ length mask
 length-spread_items blank [] items = refl
 length-spread_items blank (m ∷ mask) items = ap suc (length-spread_items blank mask (items_after m items))
+
+-- ---- a full mask
+
+pub masked_rows-full : {R : Type 0} (vertices : List (Vid × R)) (n : ℕ) → n ≡ length vertices → masked_rows (replicate n true) (keys_of vertices) (values_of vertices) ≡ vertices
+masked_rows-full [] n many = rw many refl
+masked_rows-full (v ∷ vertices) zero many = absurd (omega arith)
+masked_rows-full (v ∷ vertices) (suc n) many = ap (λ vs. v ∷ vs) (masked_rows-full vertices n (omega arith))
+
+pub set-same : {A : Type 0} (xs : List A) (i : ℕ) (x : A) → slice_get xs i ≡ Some x → set xs i x ≡ xs
+set-same [] i x at = refl
+set-same (y ∷ xs) zero x at = let same : y ≡ x = cc in rw same refl
+set-same (y ∷ xs) (suc i) x at = ap (λ ys. y ∷ ys) (set-same xs i x at)

@@ -1,7 +1,8 @@
 -- Slots: rows by slot, and a mask that says which of them count.
-use Rattle.std.specs.Prelude.{◌≡◌, ℕ, pos, ◌<◌, ◌^◌, Bool, true, false, cond, List, [], ◌∷◌, length, refl}
+use Rattle.std.specs.Prelude.{◌≡◌, ℕ, pos, ◌<◌, ◌^◌, Bool, true, false, cond, List, [], ◌∷◌, length, IsPermutation, IsSortedByKey, refl}
+use Rattle.std.specs.Map.{keys_of, values_of}
 use Rattle.gx_rows.specs.declared.vid.Vid.{Vid}
-use Rattle.gx_index.specs.Ids.{IsAscending}
+use Rattle.gx_index.specs.Ids.{IsAscending, id_cmp}
 
 -- the identifiers and rows of the slots that the mask has
 abbrev pub masked_rows : {R : Type 0} → List Bool → List Vid → List R → List (Vid × R)
@@ -17,6 +18,14 @@ pub record HasSlots {R : Type 0} (mask : List Bool) (ids : List Vid) (rows : Lis
   pub ascending : IsAscending ids
   pub one_row_each : length rows ≡ length ids
   pub one_bool_each : length mask ≡ length ids
+
+-- the identifiers and the rows of these vertices, in ascending order of the identifiers
+pub record AreSortedColumns {R : Type 0} (vertices : List (Vid × R)) (ids : List Vid) (rows : List R) : Type 0 where
+  pub sorted : List (Vid × R)
+  pub same : IsPermutation vertices sorted
+  pub order : IsSortedByKey (λ e. e.0) id_cmp sorted
+  pub ids_are : ids ≡ keys_of sorted
+  pub rows_are : rows ≡ values_of sorted
 
 -- what stands at a slot, the next item if the mask has the slot, and the items after it
 abbrev pub item_for : {A : Type 0} → A → Bool → List A → A

@@ -8,9 +8,11 @@
 //! sees edges, expressions or other partitions of the same table.
 #![tactic(auto)]
 
+mod columns;
 mod rows;
 mod rows_builder;
 mod slots;
+mod traverse;
 mod vpart;
 mod vrows;
 
