@@ -2,3 +2,4 @@ pub mod Chunks
 pub mod MaskedRows
 pub mod Progress
 pub mod Spreading
+pub mod Joining

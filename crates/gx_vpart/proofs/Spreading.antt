@@ -1,10 +1,12 @@
 -- Items spread over the slots of a mask.
-use Rattle.std.proofs.Common.{◌≡◌, ℕ, zero, suc, ◌+◌, ◌-◌, ◌<◌, ◌≤◌, Bool, true, false, cond, List, [], ◌∷◌, ◌++◌, Option, Some, None, length, drop, map, replicate, slice_get, set, refl, sym, ap, ◌∙◌, arith, append_assoc, length-append, length-drop, zip}
+use Rattle.std.proofs.Common.{◌≡◌, ℕ, zero, suc, ◌+◌, ◌-◌, ◌<◌, ◌≤◌, Bool, true, false, cond, List, [], ◌∷◌, ◌++◌, Option, Some, None, length, drop, map, replicate, slice_get, set, refl, sym, ap, ◌∙◌, arith, append_assoc, length-append, length-drop, zip, ◌^◌, Result, Ok, Err, IfOk}
 use Rattle.std.specs.Map.{keys_of, values_of}
-use Rattle.std.proofs.lemmas.List.{append-nil, set-append_right}
+use Rattle.std.proofs.lemmas.List.{append-nil, length-map, length-replicate}
+use Rattle.std.proofs.lemmas.List.Sorted.{length_permutation}
 use Rattle.gx_rows.specs.declared.vid.Vid.{Vid}
+use Rattle.gx_index.specs.Ids.{HasDistinctIds, HasDistinctIds-IsPermutation, IsAscending-from_sorted}
 use Rattle.gx_vpart.specs.Operators.{picked, with_rows}
-use Rattle.gx_vpart.specs.Slots.{item_for, items_after, masked_rows, spread_items, thinned_mask}
+use Rattle.gx_vpart.specs.Slots.{AreSortedColumns, HasSlots, item_for, items_after, masked_rows, spread_items, thinned_mask}
 
 drop-slot : {A : Type 0} (xs : List A) (i : ℕ) (x : A) → slice_get xs i ≡ Some x → drop i xs ≡ x ∷ drop (i + 1) xs
 drop-slot [] i x at = cc
@@ -109,3 +111,43 @@ pub set-same : {A : Type 0} (xs : List A) (i : ℕ) (x : A) → slice_get xs i �
 set-same [] i x at = refl
 set-same (y ∷ xs) zero x at = let same : y ≡ x = cc in rw same refl
 set-same (y ∷ xs) (suc i) x at = ap (λ ys. y ∷ ys) (set-same xs i x at)
+
+-- ---- slots
+
+pub length-columns : {R : Type 0} {vertices : List (Vid × R)} {ids : List Vid} {rows : List R} → AreSortedColumns vertices ids rows → length ids ≡ length vertices
+length-columns {vertices = vertices} c = rw (c.ids_are, length-map, length_permutation vertices c.sorted c.same) refl
+
+pub HasDistinctIds-columns : {R : Type 0} {vertices : List (Vid × R)} {ids : List Vid} {rows : List R} → AreSortedColumns vertices ids rows → HasDistinctIds (keys_of vertices) → HasDistinctIds ids
+HasDistinctIds-columns {vertices = vertices} c distinct = rw c.ids_are (HasDistinctIds-IsPermutation (λ e. e.0) vertices c.sorted c.same distinct)
+
+pub HasSlots-columns : {R : Type 0} {vertices : List (Vid × R)} {ids : List Vid} {rows : List R} (n : ℕ) → AreSortedColumns vertices ids rows → HasDistinctIds (keys_of vertices)
+    → n ≡ length ids → length vertices < 2 ^ 32 → HasSlots (replicate n true) ids rows
+HasSlots-columns {ids = ids} n c distinct many few = record {
+  few = omega (arith, length-columns c);
+  ascending = rw c.ids_are (IsAscending-from_sorted (λ e. e.0) c.sorted (rw c.ids_are at (HasDistinctIds-columns c distinct)) c.order);
+  one_row_each = rw (c.rows_are, c.ids_are, length-map, length-map) refl;
+  one_bool_each = rw (length-replicate, many) refl;
+}
+
+pub masked_rows-columns : {R : Type 0} {vertices : List (Vid × R)} {ids : List Vid} {rows : List R} (n : ℕ) (c : AreSortedColumns vertices ids rows) → n ≡ length ids → masked_rows (replicate n true) ids rows ≡ c.sorted
+masked_rows-columns n c many = rw (c.ids_are, c.rows_are) (masked_rows-full c.sorted n (rw (c.ids_are, length-map) at many))
+
+pub HasSlots-thinned : {R : Type 0} {mask : List Bool} {ids : List Vid} {rows : List R} (bools : List Bool) → HasSlots mask ids rows → HasSlots (thinned_mask mask bools) ids rows
+HasSlots-thinned {mask = mask} bools slots = record {
+  few = slots.few;
+  ascending = slots.ascending;
+  one_row_each = slots.one_row_each;
+  one_bool_each = rw length-spread_items slots.one_bool_each;
+}
+
+pub HasSlots-spread : {R S : Type 0} {mask : List Bool} {ids : List Vid} {rows : List R} (blank : S) (items : List S) → HasSlots mask ids rows → HasSlots mask ids (spread_items blank mask items)
+HasSlots-spread {mask = mask} blank items slots = record {
+  few = slots.few;
+  ascending = slots.ascending;
+  one_row_each = rw length-spread_items slots.one_bool_each;
+  one_bool_each = slots.one_bool_each;
+}
+
+pub IfOk-both : {A E : Type 0} (P Q S : A → Type 0) (r : Result A E) → ((x : A) → P x → Q x → S x) → IfOk r P → IfOk r Q → IfOk r S
+IfOk-both P Q S (Ok x) follows p q = follows x p q
+IfOk-both P Q S (Err e) follows p q = tt

@@ -1,3 +1,4 @@
 pub mod Chunks
+pub mod Joining
 pub mod Operators
 pub mod Slots

@@ -8,6 +8,7 @@
 //! sees edges, expressions or other partitions of the same table.
 #![tactic(auto)]
 
+mod beside;
 mod columns;
 mod rows;
 mod rows_builder;

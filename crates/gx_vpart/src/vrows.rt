@@ -44,6 +44,18 @@ impl<'a> VRows<'a> {
             slot: 0,
         }
     }
+
+    /// The same rows once more.
+    pub fn again(&self) -> VRows<'a>
+        ensures { result ≡ self.now }
+    {
+        VRows {
+            mask: self.mask,
+            ids: self.ids,
+            rows: self.rows,
+            slot: self.slot,
+        }
+    }
 }
 
 impl<'a> Iterator for VRows<'a> {
