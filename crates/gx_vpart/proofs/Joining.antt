@@ -1,19 +1,21 @@
 -- A walk over two ascending lists finds what look-ups find.
-use Rattle.std.proofs.Common.{◌≡◌, Bool, true, false, cond, List, [], ◌∷◌, Option, Some, None, map, refl, sym, ap, ◌∙◌}
-use Rattle.std.specs.List.{AllByRecursion}
+use Rattle.std.proofs.Common.{◌≡◌, Bool, true, false, cond, List, [], ◌∷◌, Option, Some, None, map, refl, sym, ap, ◌∙◌, All, ◌++◌, length, get_or, arith, subst, length-append}
+use Rattle.std.specs.List.{AllByRecursion, filter, filter_map}
 use Rattle.std.specs.List.Sorted.{IsStrictlySortedBy}
 use Rattle.std.specs.Map.{keys_of}
 use Rattle.std.specs.Ordering.{is_eq, is_lt, ordering_reverse}
 use Rattle.std.specs.declared.cmp.Ordering.{Ordering}
 use Rattle.std.specs.declared.cmp.Ordering.TheVariants.{Less, Equal, Greater}
 use Rattle.std.proofs.lemmas.Cmp.{tied_back}
+use Rattle.std.proofs.Math.Seq.{get_or-append_seam}
+use Rattle.std.proofs.lemmas.List.{length-map}
 use Rattle.std.proofs.lemmas.Map.{lookup-none}
 use Rattle.std.proofs.lemmas.Map.Entries.{none_below_head}
 use Rattle.std.proofs.lemmas.Map.Keys.{sorted_head, sorted_tail}
 use Rattle.gx_rows.specs.declared.vid.Vid.{Vid}
 use Rattle.gx_index.specs.Ids.{IsAscending, id_cmp, id_cmp-total, is_same_id}
 use Rattle.gx_vpart.specs.Joining.{rows_from}
-use Rattle.gx_vpart.specs.Operators.{left_join, row_of}
+use Rattle.gx_vpart.specs.Operators.{has_partner, ids_of_join, inner_join, left_join, picked, row_of, with_partner}
 
 Less-from_lt : (r : Ordering) → is_lt r ≡ true → r ≡ Less
 Less-from_lt Less lt = refl
@@ -80,3 +82,35 @@ WalksTo-greater {v = v} w r left walks first greater =
 
 pub WalksTo-end : {R : Type 0} {v : Vid} {rows now : List (Vid × R)} → WalksTo v rows now → now ≡ [] → (None ≡ row_of v rows) × (now ≡ rows_from v rows)
 WalksTo-end walks none = (rw none at walks.found, none ∙ (rw none at walks.rest))
+
+-- ---- which rows are kept
+
+-- rows picked by a test of what stands beside them
+pub picked-beside : {R S : Type 0} (test : Vid × R × Option S → Bool) (xs : List (Vid × R)) (ys : List (Vid × S))
+    → picked xs (map test (left_join xs ys)) ≡ filter (λ x. test (x.0, x.1, row_of x.0 ys)) xs
+picked-beside test [] ys = refl
+picked-beside test (x ∷ xs) ys = by (test (x.0, x.1, row_of x.0 ys)) (picked-beside test xs ys)
+  where
+    by : (b : Bool) → picked xs (map test (left_join xs ys)) ≡ filter (λ x. test (x.0, x.1, row_of x.0 ys)) xs
+        → picked (x ∷ xs) (b ∷ map test (left_join xs ys)) ≡ cond b (x ∷ filter (λ x. test (x.0, x.1, row_of x.0 ys)) xs) (filter (λ x. test (x.0, x.1, row_of x.0 ys)) xs)
+    by true more = ap (λ rows. x ∷ rows) more
+    by false more = more
+
+-- the rows that have one beside them are those of the inner join
+pub picked-partners : {R S : Type 0} (xs : List (Vid × R)) (ys : List (Vid × S)) → keys_of (picked xs (map has_partner (left_join xs ys))) ≡ ids_of_join (inner_join xs ys)
+picked-partners [] ys = refl
+picked-partners {S = S} (x ∷ xs) ys = by (row_of x.0 ys) (picked-partners xs ys)
+  where
+    by : (other : Option S) → keys_of (picked xs (map has_partner (left_join xs ys))) ≡ ids_of_join (inner_join xs ys)
+        → keys_of (picked (x ∷ xs) (map has_partner ((x.0, x.1, other) ∷ left_join xs ys))) ≡ ids_of_join (filter_map with_partner ((x.0, x.1, other) ∷ left_join xs ys))
+    by None more = more
+    by (Some s) more = ap (λ ids. x.0 ∷ ids) more
+
+pub length-picked_partners : {R S : Type 0} (xs : List (Vid × R)) (ys : List (Vid × S)) → length (picked xs (map has_partner (left_join xs ys))) ≡ length (inner_join xs ys)
+length-picked_partners xs ys = sym (length-map _ _) ∙ ap length (picked-partners xs ys) ∙ length-map _ _
+
+-- what holds of each item holds of one that is found in the list
+pub All-at : {A : Type 0} (P : A → Type 0) (xs front : List A) (x : A) (rest : List A) → All P xs → xs ≡ front ++ x ∷ rest → P x
+All-at P xs front x rest all split =
+    let whole = rw split at all in
+    subst P (get_or-append_seam front x rest x) (whole (length front) x (rw length-append (omega arith)))

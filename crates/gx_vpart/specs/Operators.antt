@@ -43,6 +43,10 @@ with_partner x = option_map (λ s. (x.0, x.1, s)) x.2
 abbrev pub inner_join : {R S : Type 0} → List (Vid × R) → List (Vid × S) → List (Vid × R × S)
 inner_join xs ys = filter_map with_partner (left_join xs ys)
 
+-- the identifiers of what a join puts side by side
+abbrev pub ids_of_join : {R S : Type 0} → List (Vid × R × S) → List Vid
+ids_of_join items = map (λ x. x.0) items
+
 -- ---- operators without a closure
 
 -- the rows of xs whose identifier is not in ys
@@ -62,6 +66,21 @@ diff xs ys = filter (λ y. is_changed (row_of y.0 xs) y.1) ys
 
 abbrev pub vertex_key : {R : Type 0} → Vid × R → RowKey
 vertex_key at = row_key.Vertex at.0
+
+abbrev pub join_key : {R S : Type 0} → Vid × R × S → RowKey
+join_key at = row_key.Vertex at.0
+
+-- ---- tests of what stands beside a row
+
+abbrev pub has_partner : {R S : Type 0} → Vid × R × Option S → Bool
+has_partner x = is_some x.2
+
+abbrev pub has_no_partner : {R S : Type 0} → Vid × R × Option S → Bool
+has_no_partner x = is_none x.2
+
+-- whether the one beside it is another row
+abbrev pub has_changed : Vid × List Value × Option (List Value) → Bool
+has_changed x = is_changed x.2 x.1
 
 -- ---- examples
 

@@ -10,6 +10,7 @@
 
 mod beside;
 mod columns;
+mod joins;
 mod rows;
 mod rows_builder;
 mod slots;

@@ -123,6 +123,10 @@ impl VPart {
         Ok(self.pick(bools.as_slice())?)
     }
 
+    pub(crate) fn alloc(&self) -> Global {
+        self.alloc
+    }
+
     // The same vertices with these rows, one for each.
     pub(crate) fn with_rows(&self, rows: Vec<Row>) -> Result<VPart, NoMemory>
         requires { length rows.items ≡ length self.now }
