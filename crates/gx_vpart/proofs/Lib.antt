@@ -3,3 +3,4 @@ pub mod MaskedRows
 pub mod Progress
 pub mod Spreading
 pub mod Joining
+pub mod Pairs

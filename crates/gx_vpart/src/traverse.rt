@@ -109,7 +109,7 @@ pub fn changed(alloc: Global, rows: Beside<'_>) -> Result<Vec<bool>, NoMemory>
 }
 
 fn differs(old: Option<&Row>, new: &Row) -> bool
-    ensures { result ≡ is_changed (option_copied old) new.now }
+    ensures { result ≡ is_changed (option_copied old.entry) new.now }
 {
     match old {
         Some(old) => old != new,
