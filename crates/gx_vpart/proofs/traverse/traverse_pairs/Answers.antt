@@ -12,7 +12,7 @@ pub f-requires : goal.f-requires
 f-requires g c =
     let some : option_copied c.in-Some.other ≡ Some c.in-Some-other.other.now = rw c.in-Some-other.is refl in
     let first = next-pair c.in-Some.v c.in-Some.row.now c.in-Some-other.other.now (option_copied c.in-Some.other) c.rows.v-iterator c.next.new.self c.in-Some.ensures.steps some in
-    let all = rw c.into_iter-v-iterator.ensures.into_iter_gives at c.requires in
+    let all = rw (← c.into_iter-v-iterator.ensures.into_iter_gives) at c.requires in
     All-next (MayCallAtPair (given.F-pre g c.args.f)) _ _ c.rows.invariant.so_far first all c.in-Some.row c.in-Some-other.other refl refl
 
 pub rows-preserved : goal.rows-preserved
