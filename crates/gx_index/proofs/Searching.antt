@@ -44,7 +44,7 @@ module _ {X : Type 0} (key : X → Vid) (v : Vid) (xs : List X) where
       let before : k < length xs = omega arith in
       let next : k + 1 < length (map key xs) = rw length-map high in
       let less : id_cmp (get_or (map key xs) k (key d)) (get_or (map key xs) (k + 1) (key d)) ≡ Less
-              = Less-from_sorted id_cmp (map key xs) k (k + 1) (key d) ascending (omega arith) next in
+      = Less-from_sorted id_cmp (map key xs) k (k + 1) (key d) ascending (omega arith) next in
       let at = rw (get_or-map key xs k d (key d) before, get_or-map key xs (k + 1) d (key d) high) at less in
       less_not_after (key (get_or xs k d)) (key (get_or xs (k + 1) d)) at
 

@@ -31,22 +31,22 @@ pub slice_get-chunks : {A : Type 0} (size : ℕ) (cs : List (List A)) (i : ℕ) 
 slice_get-chunks size [] i some even = refl
 slice_get-chunks size (c ∷ []) i some even =
     elim (cases_lt i size) [
-      inl below ↦ rw (append-nil, div-eq_of_lt below, mod-eq_of_lt below) refl
-    | inr from ↦
-        let past : length c ≤ i = omega arith in
-        rw (append-nil, div-eq-sub-div some from, add-one) (slice_get_past c i past)
+      | inl below ↦ rw (append-nil, div-eq_of_lt below, mod-eq_of_lt below) refl
+      | inr from ↦
+          let past : length c ≤ i = omega arith in
+          rw (append-nil, div-eq-sub-div some from, add-one) (slice_get_past c i past)
     ]
 slice_get-chunks size (c ∷ d ∷ cs) i some even =
     elim (cases_lt i size) [
-      inl below ↦
-        let within : i < length c = omega (arith, even.0) in
-        rw (div-eq_of_lt below, mod-eq_of_lt below) (slice_get-left c (items_of_chunks (d ∷ cs)) i within)
-    | inr from ↦
-        let past : length c ≤ i = omega (arith, even.0) in
-        rw (div-eq-sub-div some from, mod-eq-sub-mod from, add-one)
-        (slice_get-right c (items_of_chunks (d ∷ cs)) i past
-        ∙ ap (λ n. slice_get (items_of_chunks (d ∷ cs)) (i - n)) even.0
-        ∙ slice_get-chunks size (d ∷ cs) (i - size) some even.1)
+      | inl below ↦
+          let within : i < length c = omega (arith, even.0) in
+          rw (div-eq_of_lt below, mod-eq_of_lt below) (slice_get-left c (items_of_chunks (d ∷ cs)) i within)
+      | inr from ↦
+          let past : length c ≤ i = omega (arith, even.0) in
+          rw (div-eq-sub-div some from, mod-eq-sub-mod from, add-one)
+          (slice_get-right c (items_of_chunks (d ∷ cs)) i past
+          ∙ ap (λ n. slice_get (items_of_chunks (d ∷ cs)) (i - n)) even.0
+          ∙ slice_get-chunks size (d ∷ cs) (i - size) some even.1)
     ]
 
 items_of_chunks-append : {A : Type 0} (cs ds : List (List A)) → items_of_chunks (cs ++ ds) ≡ items_of_chunks cs ++ items_of_chunks ds

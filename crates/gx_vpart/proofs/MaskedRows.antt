@@ -152,6 +152,7 @@ row_of-slot v n k (m ∷ mask) (w ∷ ids) (r ∷ rows) distinct masks counts at
   where
     gone : is_same_id v w ≡ true → row_of v (masked_rows mask ids rows) ≡ None
     gone same = row_of-none v (masked_rows mask ids rows) (all-masked_rows (λ y. is_same_id v y ≡ false) mask ids rows (same-apart v w ids same (IsDistinct-head is_same_id w ids distinct)))
+
     by : (m b : Bool) → is_same_id v w ≡ b → (k : ℕ) → cond b (Some n) (position_from (is_same_id v) (n + 1) ids) ≡ Some (n + k)
         → ((j : ℕ) → position_from (is_same_id v) (n + 1) ids ≡ Some (n + 1 + j) → row_of v (masked_rows mask ids rows) ≡ row_under (slice_get mask j) (slice_get rows j))
         → row_of v (masked_rows (m ∷ mask) (w ∷ ids) (r ∷ rows)) ≡ row_under (slice_get (m ∷ mask) k) (slice_get (r ∷ rows) k)

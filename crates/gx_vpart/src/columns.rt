@@ -11,10 +11,7 @@ use gx_rows::{NoMemory, Row, Vid};
 use std::alloc::Global;
 
 /// The identifiers in ascending order, and the rows in the same order.
-pub fn columns(
-    alloc: Global,
-    mut rows: Vec<(Vid, Row)>,
-) -> Result<(Vec<Vid>, Rows), NoMemory>
+pub fn columns(alloc: Global, mut rows: Vec<(Vid, Row)>) -> Result<(Vec<Vid>, Rows), NoMemory>
     ensures { IfOk result (λ c. AreSortedColumns rows.items c.0.items c.1) }
 {
     rows.sort_unstable_by_key(|r| r.0);

@@ -14,10 +14,11 @@ mod joins;
 mod rows;
 mod rows_builder;
 mod slots;
+#[cfg(test)]
+mod tests;
 mod traverse;
 mod vpart;
 mod vrows;
 
 pub use vpart::VPart;
 pub use vrows::VRows;
-

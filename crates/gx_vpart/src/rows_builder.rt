@@ -58,7 +58,11 @@ impl RowsBuilder {
     pub fn finish(self) -> Result<Rows, NoMemory>
         ensures { IfOk result (λ rows. rows ≡ self) }
     {
-        let RowsBuilder { mut full, last, alloc } = self;
+        let RowsBuilder {
+            mut full,
+            last,
+            alloc,
+        } = self;
         full.push(Rc::new(alloc, last)?)?;
         Ok(Rows::of_chunks(full))
     }

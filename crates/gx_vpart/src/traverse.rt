@@ -3,6 +3,8 @@
 ghost use Rattle.std.specs.Prelude.{◌≡◌, ◌∷◌, ◌++◌, All, IfOk, OnOk, [], filter_map, map};
 ghost use Rattle.std.specs.Option.{option_copied};
 ghost use Rattle.gx_traverse.specs.Calls.{MayCallAtVertex, ReturnsAtVertex};
+ghost use Rattle.gx_rows.specs.declared.row_key.RowKey.TheVariants as row_key;
+ghost use Rattle.gx_traverse.specs.Steps.{stopped_at};
 ghost use Rattle.gx_traverse.specs.Traversal.{IsTraversal};
 ghost use Rattle.gx_vpart.specs.JoinCalls.{MayCallAtPair, MayCallBeside, ReturnsAtPair, ReturnsBeside};
 ghost use Rattle.gx_vpart.specs.Operators.{
@@ -35,7 +37,7 @@ pub fn traverse_rows<B: Drop, F: Fn(Vid, &Row) -> Result<B, EvalStop>>(
     'rows: for (v, row) in rows {
         match f(v, row) {
             Ok(value) => push(&mut values, value)?,
-            Err(stop) => return Err(stop_at(RowKey::Vertex(v), stop)),
+            Err(stop) => return Err(stop_at_vertex(v, stop)),
         }
     }
     Ok(values)
@@ -55,7 +57,7 @@ pub fn traverse_beside<B: Drop, F: Fn(Vid, &Row, Option<&Row>) -> Result<B, Eval
     'rows: for (v, row, other) in rows {
         match f(v, row, other) {
             Ok(value) => push(&mut values, value)?,
-            Err(stop) => return Err(stop_at(RowKey::Vertex(v), stop)),
+            Err(stop) => return Err(stop_at_vertex(v, stop)),
         }
     }
     Ok(values)
@@ -80,7 +82,7 @@ pub fn traverse_pairs<B: Drop, F: Fn(Vid, &Row, &Row) -> Result<B, EvalStop>>(
         };
         match f(v, row, other) {
             Ok(value) => push(&mut values, value)?,
-            Err(stop) => return Err(stop_at(RowKey::Vertex(v), stop)),
+            Err(stop) => return Err(stop_at_vertex(v, stop)),
         }
     }
     Ok((bools, values))
@@ -106,6 +108,12 @@ pub fn changed(alloc: Global, rows: Beside<'_>) -> Result<Vec<bool>, NoMemory>
         push(&mut bools, differs(other, row))?;
     }
     Ok(bools)
+}
+
+fn stop_at_vertex(v: Vid, stop: EvalStop) -> PartStop
+    ensures { result ≡ stopped_at (row_key.Vertex v) stop }
+{
+    stop_at(RowKey::Vertex(v), stop)
 }
 
 fn differs(old: Option<&Row>, new: &Row) -> bool
