@@ -1,5 +1,5 @@
 -- Lists of identifiers.
-use Rattle.std.specs.Prelude.{◌≡◌, ℕ, ℤ, pos, ◌+◌, ◌<◌, Bool, true, false, List, [], ◌∷◌, Option, Some, None, IsPermutation, IsSortedByKey, length, map, refl}
+use Rattle.std.specs.Prelude.{◌≡◌, ℕ, pos, ◌+◌, ◌<◌, Bool, false, List, [], ◌∷◌, Option, Some, IsPermutation, IsSortedByKey, length, map, refl}
 use Rattle.std.specs.Cmp.{IsTotalOrder}
 use Rattle.std.proofs.Common.{◌∙◌, get_or, arith}
 use Rattle.std.specs.List.{IsDistinct, list_any, position_from}

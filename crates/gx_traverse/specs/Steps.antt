@@ -1,11 +1,10 @@
 -- The loop of a traversal: what holds of the values so far, one more value, and how it ends.
-use Rattle.std.specs.Prelude.{◌≡◌, ℕ, List, [], ◌∷◌, ◌++◌, Result, Ok, Err, Vec, length, refl}
+use Rattle.std.specs.Prelude.{◌≡◌, List, [], ◌∷◌, ◌++◌, Result, Ok, Err, Vec, length, refl}
 use Rattle.std.specs.Global.{Global}
 use Rattle.std.specs.List.{AllZip}
 use Rattle.std.proofs.Common.{append_assoc}
 use Rattle.std.proofs.lemmas.List.{append-nil}
 use Rattle.std.proofs.lemmas.Slice.Zip.{AllZip-long, all_zipped_more}
-use Rattle.gx_rows.specs.declared.cause.Cause.{Cause}
 use Rattle.gx_rows.specs.declared.eval_stop.EvalStop.{EvalStop}
 use Rattle.gx_rows.specs.declared.eval_stop.EvalStop.TheVariants as eval_stop
 use Rattle.gx_rows.specs.declared.part_stop.PartStop.{PartStop}
@@ -51,7 +50,10 @@ pub SoFar-stop : {A B V : Type 0} {returns : A → Result B EvalStop → Type 0}
     → SoFar returns xs left ys → left ≡ x ∷ rest → returns x (Err s) → IsTraversal returns key xs makes (Err (stopped_at (key x) s))
 SoFar-stop {ys = ys} key makes x rest (eval_stop.Fault cause node) so_far first stops = record {
   says = record {
-    before = so_far.front; item = x; after = rest; values = ys;
+    before = so_far.front;
+    item = x;
+    after = rest;
+    values = ys;
     split = rw first at so_far.split;
     fine = so_far.fine;
     fault = stops;

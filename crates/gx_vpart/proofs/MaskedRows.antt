@@ -10,7 +10,7 @@ use Rattle.std.proofs.lemmas.List.{drop-drop}
 use Rattle.std.proofs.lemmas.Map.Keys.{IsDistinct-head, IsDistinct-tail}
 use Rattle.gx_rows.specs.declared.vid.Vid.{Vid}
 use Rattle.gx_index.specs.Ids.{HasDistinctIds, IsAscending, id_cmp, id_cmp-exact, id_cmp-total, is_same_id}
-use Rattle.gx_vpart.specs.Operators.{row_of}
+use Rattle.gx_vpart.specs.Operators.{row_at}
 use Rattle.gx_vpart.specs.Slots.{masked_rows}
 
 -- ---- the next slot of a mask
@@ -102,9 +102,9 @@ IsAscending-masked_rows (false ∷ mask) (v ∷ ids) (r ∷ rows) up = IsAscendi
 
 -- ---- the row of an identifier
 
-row_of-none : {R : Type 0} (v : Vid) (rows : List (Vid × R)) → AllByRecursion (λ w. is_same_id v w ≡ false) (keys_of rows) → row_of v rows ≡ None
-row_of-none v [] none = refl
-row_of-none v (r ∷ rows) none = rw none.0 (row_of-none v rows none.1)
+row_at-none : {R : Type 0} (v : Vid) (rows : List (Vid × R)) → AllByRecursion (λ w. is_same_id v w ≡ false) (keys_of rows) → row_at v rows ≡ None
+row_at-none v [] none = refl
+row_at-none v (r ∷ rows) none = rw none.0 (row_at-none v rows none.1)
 
 none-before : (v : Vid) (n : ℕ) (ids : List Vid) → position_from (is_same_id v) n ids ≡ None → AllByRecursion (λ w. is_same_id v w ≡ false) ids
 none-before v n [] none = tt
@@ -117,8 +117,8 @@ none-before v n (w ∷ ids) none = by (is_same_id v w) refl none (none-before v 
     by false apart none more = (apart, more none)
 
 -- an identifier without a slot has no row
-pub row_of-no_slot : {R : Type 0} (v : Vid) (mask : List Bool) (ids : List Vid) (rows : List R) → position_from (is_same_id v) 0 ids ≡ None → row_of v (masked_rows mask ids rows) ≡ None
-row_of-no_slot v mask ids rows none = row_of-none v (masked_rows mask ids rows) (all-masked_rows (λ w. is_same_id v w ≡ false) mask ids rows (none-before v 0 ids none))
+pub row_at-no_slot : {R : Type 0} (v : Vid) (mask : List Bool) (ids : List Vid) (rows : List R) → position_from (is_same_id v) 0 ids ≡ None → row_at v (masked_rows mask ids rows) ≡ None
+row_at-no_slot v mask ids rows none = row_at-none v (masked_rows mask ids rows) (all-masked_rows (λ w. is_same_id v w ≡ false) mask ids rows (none-before v 0 ids none))
 
 -- the row of a slot, if the mask has the slot
 abbrev pub row_under : {R : Type 0} → Option Bool → Option R → Option R
@@ -142,20 +142,20 @@ same-apart : (v w : Vid) (ids : List Vid) → is_same_id v w ≡ true → AllByR
 same-apart v w [] same apart = tt
 same-apart v w (y ∷ ids) same apart = ((eq_by_cmp_equiv id_cmp-total).congr v w y same ∙ apart.0, same-apart v w ids same apart.1)
 
-row_of-slot : {R : Type 0} (v : Vid) (n k : ℕ) (mask : List Bool) (ids : List Vid) (rows : List R) → HasDistinctIds ids → length mask ≡ length ids → length rows ≡ length ids
-    → position_from (is_same_id v) n ids ≡ Some (n + k) → row_of v (masked_rows mask ids rows) ≡ row_under (slice_get mask k) (slice_get rows k)
-row_of-slot v n k mask [] rows distinct masks counts at = cc
-row_of-slot v n k [] (w ∷ ids) rows distinct masks counts at = absurd (omega arith)
-row_of-slot v n k (m ∷ mask) (w ∷ ids) [] distinct masks counts at = absurd (omega arith)
-row_of-slot v n k (m ∷ mask) (w ∷ ids) (r ∷ rows) distinct masks counts at =
-    by m (is_same_id v w) refl k at (λ j at. row_of-slot v (n + 1) j mask ids rows (IsDistinct-tail is_same_id w ids distinct) (omega arith) (omega arith) at)
+row_at-slot : {R : Type 0} (v : Vid) (n k : ℕ) (mask : List Bool) (ids : List Vid) (rows : List R) → HasDistinctIds ids → length mask ≡ length ids → length rows ≡ length ids
+    → position_from (is_same_id v) n ids ≡ Some (n + k) → row_at v (masked_rows mask ids rows) ≡ row_under (slice_get mask k) (slice_get rows k)
+row_at-slot v n k mask [] rows distinct masks counts at = cc
+row_at-slot v n k [] (w ∷ ids) rows distinct masks counts at = absurd (omega arith)
+row_at-slot v n k (m ∷ mask) (w ∷ ids) [] distinct masks counts at = absurd (omega arith)
+row_at-slot v n k (m ∷ mask) (w ∷ ids) (r ∷ rows) distinct masks counts at =
+    by m (is_same_id v w) refl k at (λ j at. row_at-slot v (n + 1) j mask ids rows (IsDistinct-tail is_same_id w ids distinct) (omega arith) (omega arith) at)
   where
-    gone : is_same_id v w ≡ true → row_of v (masked_rows mask ids rows) ≡ None
-    gone same = row_of-none v (masked_rows mask ids rows) (all-masked_rows (λ y. is_same_id v y ≡ false) mask ids rows (same-apart v w ids same (IsDistinct-head is_same_id w ids distinct)))
+    gone : is_same_id v w ≡ true → row_at v (masked_rows mask ids rows) ≡ None
+    gone same = row_at-none v (masked_rows mask ids rows) (all-masked_rows (λ y. is_same_id v y ≡ false) mask ids rows (same-apart v w ids same (IsDistinct-head is_same_id w ids distinct)))
 
     by : (m b : Bool) → is_same_id v w ≡ b → (k : ℕ) → cond b (Some n) (position_from (is_same_id v) (n + 1) ids) ≡ Some (n + k)
-        → ((j : ℕ) → position_from (is_same_id v) (n + 1) ids ≡ Some (n + 1 + j) → row_of v (masked_rows mask ids rows) ≡ row_under (slice_get mask j) (slice_get rows j))
-        → row_of v (masked_rows (m ∷ mask) (w ∷ ids) (r ∷ rows)) ≡ row_under (slice_get (m ∷ mask) k) (slice_get (r ∷ rows) k)
+        → ((j : ℕ) → position_from (is_same_id v) (n + 1) ids ≡ Some (n + 1 + j) → row_at v (masked_rows mask ids rows) ≡ row_under (slice_get mask j) (slice_get rows j))
+        → row_at v (masked_rows (m ∷ mask) (w ∷ ids) (r ∷ rows)) ≡ row_under (slice_get (m ∷ mask) k) (slice_get (r ∷ rows) k)
     by true true same zero at more = rw same refl
     by false true same zero at more = gone same
     by m true same (suc k) at more = let eq : n ≡ n + suc k = cc in absurd (omega arith)
@@ -164,6 +164,6 @@ row_of-slot v n k (m ∷ mask) (w ∷ ids) (r ∷ rows) distinct masks counts at
     by false false apart (suc k) at more = let eq : n + suc k ≡ n + 1 + k = omega arith in more k (rw eq at at)
 
 -- the row of an identifier is that of its slot
-pub row_of-masked_rows : {R : Type 0} (v : Vid) (s : ℕ) (mask : List Bool) (ids : List Vid) (rows : List R) → HasDistinctIds ids → length mask ≡ length ids → length rows ≡ length ids
-    → position_from (is_same_id v) 0 ids ≡ Some s → row_of v (masked_rows mask ids rows) ≡ row_under (slice_get mask s) (slice_get rows s)
-row_of-masked_rows v s mask ids rows distinct masks counts at = row_of-slot v 0 s mask ids rows distinct masks counts (rw zero-add at)
+pub row_at-masked_rows : {R : Type 0} (v : Vid) (s : ℕ) (mask : List Bool) (ids : List Vid) (rows : List R) → HasDistinctIds ids → length mask ≡ length ids → length rows ≡ length ids
+    → position_from (is_same_id v) 0 ids ≡ Some s → row_at v (masked_rows mask ids rows) ≡ row_under (slice_get mask s) (slice_get rows s)
+row_at-masked_rows v s mask ids rows distinct masks counts at = row_at-slot v 0 s mask ids rows distinct masks counts (rw zero-add at)

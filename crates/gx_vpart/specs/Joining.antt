@@ -6,6 +6,6 @@ use Rattle.gx_rows.specs.declared.vid.Vid.{Vid}
 use Rattle.gx_index.specs.Ids.{id_cmp}
 
 -- the rows from the first on whose identifier is not less than v
-abbrev pub rows_from : {R : Type 0} → Vid → List (Vid × R) → List (Vid × R)
-rows_from v [] = []
-rows_from v (r ∷ rows) = cond (is_lt (id_cmp r.0 v)) (rows_from v rows) (r ∷ rows)
+abbrev pub rows_not_below : {R : Type 0} → Vid → List (Vid × R) → List (Vid × R)
+rows_not_below v [] = []
+rows_not_below v (r ∷ rows) = cond (is_lt (id_cmp r.0 v)) (rows_not_below v rows) (r ∷ rows)

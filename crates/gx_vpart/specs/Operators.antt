@@ -1,5 +1,6 @@
 -- The operators of vertex partitions, on lists of identifiers with rows.
-use Rattle.std.specs.Prelude.{◌≡◌, ℕ, ℤ, pos, Bool, true, false, not, ◌&&◌, List, [], ◌∷◌, map, filter, filter_map, zip, Option, Some, None, option_map, is_some, is_none, refl}
+use Rattle.std.specs.Prelude.{◌≡◌, ℕ, ℤ, pos, Bool, true, false, cond, not, ◌&&◌, List, [], ◌∷◌, map, filter, filter_map, zip, Option, Some, None, option_map, is_some, is_none, refl}
+use Rattle.std.proofs.Common.{ap}
 use Rattle.std.specs.Map.{keys_of, lookup}
 use Rattle.std.specs.Ordering.{eq_by_cmp}
 use Rattle.gx_rows.specs.Order.{row_cmp}
@@ -15,8 +16,8 @@ abbrev pub VertexRow : Type 0
 VertexRow = Vid × List Value
 
 -- the row of an identifier; `None` if it has none
-abbrev pub row_of : {R : Type 0} → Vid → List (Vid × R) → Option R
-row_of v rows = lookup (is_same_id v) rows
+abbrev pub row_at : {R : Type 0} → Vid → List (Vid × R) → Option R
+row_at v rows = lookup (is_same_id v) rows
 
 -- the vertices with these rows in place of theirs
 abbrev pub with_rows : {R S : Type 0} → List (Vid × R) → List S → List (Vid × S)
@@ -29,11 +30,20 @@ picked (x ∷ xs) [] = []
 picked (x ∷ xs) (true ∷ bools) = x ∷ picked xs bools
 picked (x ∷ xs) (false ∷ bools) = picked xs bools
 
+-- with a test for the bools, they are those that pass
+pub picked-filter : {A : Type 0} (test : A → Bool) (xs : List A) → picked xs (map test xs) ≡ filter test xs
+picked-filter test [] = refl
+picked-filter test (x ∷ xs) = by (test x) (picked-filter test xs)
+  where
+    by : (b : Bool) → picked xs (map test xs) ≡ filter test xs → picked (x ∷ xs) (b ∷ map test xs) ≡ cond b (x ∷ filter test xs) (filter test xs)
+    by true more = ap (λ rows. x ∷ rows) more
+    by false more = more
+
 -- ---- joins: what stands beside the rows
 
 -- each row of xs, with the row of ys under the same identifier, if any
 abbrev pub left_join : {R S : Type 0} → List (Vid × R) → List (Vid × S) → List (Vid × R × Option S)
-left_join xs ys = map (λ x. (x.0, x.1, row_of x.0 ys)) xs
+left_join xs ys = map (λ x. (x.0, x.1, row_at x.0 ys)) xs
 
 -- the row with the one beside it, if there is one
 abbrev pub with_partner : {R S : Type 0} → Vid × R × Option S → Option (Vid × R × S)
@@ -51,7 +61,7 @@ ids_of_join items = map (λ x. x.0) items
 
 -- the rows of xs whose identifier is not in ys
 abbrev pub minus : {R S : Type 0} → List (Vid × R) → List (Vid × S) → List (Vid × R)
-minus xs ys = filter (λ x. is_none (row_of x.0 ys)) xs
+minus xs ys = filter (λ x. is_none (row_at x.0 ys)) xs
 
 -- whether there is a row and it is another one
 abbrev pub is_changed : Option (List Value) → List Value → Bool
@@ -60,7 +70,7 @@ is_changed (Some old) new = not (eq_by_cmp row_cmp old new)
 
 -- the rows of ys whose identifier is in xs with another row
 abbrev pub diff : List VertexRow → List VertexRow → List VertexRow
-diff xs ys = filter (λ y. is_changed (row_of y.0 xs) y.1) ys
+diff xs ys = filter (λ y. is_changed (row_at y.0 xs) y.1) ys
 
 -- ---- keys of faults
 

@@ -7,8 +7,8 @@ ghost use Rattle.std.specs.Iterator.{YieldsFirstBy, item_count};
 ghost use Rattle.std.specs.Map.{keys_of};
 ghost use Rattle.std.specs.Option.{option_copied};
 ghost use Rattle.gx_index.specs.Ids.{IsAscending};
-ghost use Rattle.gx_vpart.specs.Joining.{rows_from};
-ghost use Rattle.gx_vpart.specs.Operators.{left_join, row_of};
+ghost use Rattle.gx_vpart.specs.Joining.{rows_not_below};
+ghost use Rattle.gx_vpart.specs.Operators.{left_join, row_at};
 
 use crate::vrows::VRows;
 use gx_rows::{Row, Vid};
@@ -67,8 +67,8 @@ impl<'a> Iterator for Beside<'a> {
 // The row of `v`, if any. The rows before it are passed over.
 fn partner<'a>(rows: &mut VRows<'a>, v: Vid) -> Option<&'a Row>
     requires { IsAscending (keys_of rows.old) }
-    ensures found { option_copied result ≡ row_of v rows.old }
-    ensures rest { rows.new ≡ rows_from v rows.old }
+    ensures found { option_copied result ≡ row_at v rows.old }
+    ensures rest { rows.new ≡ rows_not_below v rows.old }
 {
     let mut rest = rows.again();
     'below: while let Some((w, row)) = rest.next() {

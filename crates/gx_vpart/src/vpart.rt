@@ -6,7 +6,7 @@ ghost use Rattle.std.specs.Option.{option_copied};
 ghost use Rattle.gx_index.specs.Ids.{HasDistinctIds, IsAscending};
 ghost use Rattle.gx_traverse.specs.Calls.{MayCallAtVertex, ReturnsAtVertex};
 ghost use Rattle.gx_traverse.specs.Traversal.{IsTraversal};
-ghost use Rattle.gx_vpart.specs.Operators.{picked, row_of, vertex_key, with_rows};
+ghost use Rattle.gx_vpart.specs.Operators.{picked, row_at, vertex_key, with_rows};
 
 use crate::columns::columns;
 use crate::rows::Rows;
@@ -68,7 +68,7 @@ impl VPart {
 
     /// The row of `v`; `None` exactly if `v` is not in the partition. It takes no memory.
     pub fn row(&self, v: Vid) -> Option<&Row>
-        ensures { option_copied result ≡ row_of v self.now }
+        ensures { option_copied result ≡ row_at v self.now }
     {
         let Some(slot) = self.index.find(v) else {
             return None;
