@@ -1,9 +1,9 @@
 -- What merging keeps of the ends of edges.
-use Rattle.std.proofs.Common.{◌≡◌, ℕ, ◌+◌, ◌<◌, Bool, true, false, cond, ◌&&◌, ◌||◌, List, [], ◌∷◌, Option, Some, None, All, IsSorted, IsSortedByKey, get_or, length, map, refl, sym, ap, ◌∙◌, arith}
+use Rattle.std.proofs.Common.{◌≡◌, ◌+◌, ◌<◌, Bool, true, false, cond, ◌&&◌, ◌||◌, List, [], ◌∷◌, Some, IsSorted, IsSortedByKey, length, refl, sym, ap, ◌∙◌, arith}
 use Rattle.std.specs.Cmp.{Equal-is}
 use Rattle.std.specs.List.{AllByRecursion, dedup, dedup_from, list_any}
 use Rattle.std.specs.List.Sorted.{IsPermutation}
-use Rattle.std.specs.Map.{keys_of, lookup}
+use Rattle.std.specs.Map.{keys_of}
 use Rattle.std.proofs.lemmas.Cmp.{eq_by_cmp_equiv}
 use Rattle.std.proofs.lemmas.List.{get_or-map, length-map}
 use Rattle.std.proofs.lemmas.List.Elements.{All-from_recursion, recursion_from_All}
@@ -13,9 +13,9 @@ use Rattle.std.proofs.lemmas.Map.Entries.{none_past_head}
 use Rattle.std.proofs.lemmas.Map.Keys.{IsDistinct-tail}
 use Rattle.gx_rows.specs.declared.sides.Sides.{Sides}
 use Rattle.gx_rows.specs.declared.vid.Vid.{Vid}
-use Rattle.gx_index.specs.Ends.{End, IsEndsOf, IsSetOf, sides_if_any, sides_in_edges, sides_of_end}
+use Rattle.gx_index.specs.Ends.{End, IsEndsOf, IsSetOf, sides_if_any, sides_of_end}
 use Rattle.gx_index.specs.Ids.{HasDistinctIds, HasDistinctIds-from_ascending, IsAscending, has_id, id_cmp, id_cmp-exact, id_cmp-total, is_same_id}
-use Rattle.gx_index.specs.Merging.{destination_side, either_sides, end_entries, merged, merged_from, source_side}
+use Rattle.gx_index.specs.Merging.{either_sides, end_entries, merged, merged_from, source_side}
 
 -- ---- the identifiers
 

@@ -1,5 +1,5 @@
 -- The slots of identifiers.
-use Rattle.std.proofs.Common.{◌≡◌, ℕ, zero, suc, ◌+◌, ◌<◌, Bool, true, false, cond, List, [], ◌∷◌, Option, Some, None, All, get_or, length, refl, sym, ap, ◌∙◌, slice_get, arith, zero-add, pos}
+use Rattle.std.proofs.Common.{◌≡◌, ℕ, zero, suc, ◌+◌, true, false, cond, List, [], ◌∷◌, Some, None, All, length, refl, sym, ap, ◌∙◌, slice_get, arith, zero-add, pos}
 use Rattle.std.specs.declared.cmp.Ordering.{Ordering}
 use Rattle.std.specs.declared.cmp.Ordering.TheVariants.{Less, Equal, Greater}
 use Rattle.std.specs.List.{AllAdjacentBelow, AllByRecursion, position_from}

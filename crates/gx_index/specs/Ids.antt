@@ -1,5 +1,5 @@
 -- Lists of identifiers.
-use Rattle.std.specs.Prelude.{◌≡◌, ℕ, ℤ, pos, ◌+◌, ◌<◌, Bool, true, false, List, [], ◌∷◌, Option, Some, None, IsPermutation, IsSortedByKey, length, map, refl}
+use Rattle.std.specs.Prelude.{◌≡◌, ℕ, pos, ◌+◌, ◌<◌, Bool, false, List, [], ◌∷◌, Option, Some, IsPermutation, IsSortedByKey, length, map, refl}
 use Rattle.std.specs.Cmp.{IsTotalOrder}
 use Rattle.std.proofs.Common.{◌∙◌, get_or, arith}
 use Rattle.std.specs.List.{IsDistinct, list_any, position_from}
@@ -69,13 +69,13 @@ IsAscending-from_sorted key [] distinct sorted = ascending_nil
 IsAscending-from_sorted key (x ∷ xs) distinct sorted =
     sorted_from_all_adjacent id_cmp-total (map key (x ∷ xs)) (key x)
     (λ k within.
-        let next : k + 1 < length (x ∷ xs) = rw length-map at within in
-        let before : k < length (x ∷ xs) = omega arith in
-        let apart = apart_from_distinct is_same_id (map key (x ∷ xs)) k (k + 1) (key x) distinct (omega arith) within in
-        rw (get_or-map key (x ∷ xs) k x (key x) before, get_or-map key (x ∷ xs) (k + 1) x (key x) next)
-        (less_if_apart (key (get_or (x ∷ xs) k x)) (key (get_or (x ∷ xs) (k + 1) x))
-        (rw (get_or-map key (x ∷ xs) k x (key x) before, get_or-map key (x ∷ xs) (k + 1) x (key x) next) at apart)
-        (sorted k x (omega arith) next)))
+    let next : k + 1 < length (x ∷ xs) = rw length-map at within in
+    let before : k < length (x ∷ xs) = omega arith in
+    let apart = apart_from_distinct is_same_id (map key (x ∷ xs)) k (k + 1) (key x) distinct (omega arith) within in
+    rw (get_or-map key (x ∷ xs) k x (key x) before, get_or-map key (x ∷ xs) (k + 1) x (key x) next)
+    (less_if_apart (key (get_or (x ∷ xs) k x)) (key (get_or (x ∷ xs) (k + 1) x))
+    (rw (get_or-map key (x ∷ xs) k x (key x) before, get_or-map key (x ∷ xs) (k + 1) x (key x) next) at apart)
+    (sorted k x (omega arith) next)))
 
 -- distinct identifiers in another order are distinct
 pub HasDistinctIds-IsPermutation : {X : Type 0} (key : X → Vid) (xs ys : List X) → IsPermutation xs ys → HasDistinctIds (map key xs) → HasDistinctIds (map key ys)
@@ -83,7 +83,6 @@ HasDistinctIds-IsPermutation key xs ys same distinct =
     IsDistinct-IsPermutation is_same_id (eq_by_cmp_equiv id_cmp-total).symm (map key xs) (map key ys) (IsPermutation-map key xs ys same) distinct
 
 -- ---- examples
-
 
 slot_of-example : slot_of (record { 0 = pos 7 }) (record { 0 = pos 9 } ∷ record { 0 = pos 7 } ∷ []) ≡ Some 1
 slot_of-example = refl

@@ -1,6 +1,6 @@
 -- How the ends of edges are collected: an entry for each end of each edge, and then one entry for
 -- each run of equal identifiers.
-use Rattle.std.specs.Prelude.{Bool, true, false, cond, ◌||◌, List, [], ◌∷◌}
+use Rattle.std.specs.Prelude.{true, false, cond, ◌||◌, List, [], ◌∷◌}
 use Rattle.gx_rows.specs.declared.sides.Sides.{Sides}
 use Rattle.gx_rows.specs.declared.vid.Vid.{Vid}
 use Rattle.gx_index.specs.Ends.{End}

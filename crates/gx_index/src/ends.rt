@@ -66,8 +66,14 @@ fn sorted_entries(alloc: Global, edges: &[(Vid, Vid)]) -> Result<Vec<(Vid, Sides
     ensures sorted { IfOk result (λ entries. IsSortedByKey (λ e. e.0) id_cmp entries.items) }
     ensures same { IfOk result (λ entries. IsPermutation (end_entries edges.now) entries.items) }
 {
-    let src = Sides { src: true, dst: false };
-    let dst = Sides { src: false, dst: true };
+    let src = Sides {
+        src: true,
+        dst: false,
+    };
+    let dst = Sides {
+        src: false,
+        dst: true,
+    };
     let mut entries = Vec::new(alloc);
     let mut rest = edges;
     while let [edge, after @ ..] = rest {

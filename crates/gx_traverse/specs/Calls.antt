@@ -1,6 +1,6 @@
 -- Calls of a closure at a vertex or at an edge. The closure is given the identifiers by value and
 -- the row by reference, and the list has the row itself.
-use Rattle.std.specs.Prelude.{◌≡◌, List, Result}
+use Rattle.std.specs.Prelude.{◌≡◌, Result}
 use Rattle.gx_rows.specs.declared.eval_stop.EvalStop.{EvalStop}
 use Rattle.gx_rows.specs.declared.vid.Vid.{Vid}
 use denote.Ref.{Bor}

@@ -1,9 +1,10 @@
 -- The loop of a traversal: what holds of the values so far, one more value, and how it ends.
-use Rattle.std.specs.Prelude.{◌≡◌, ℕ, List, [], ◌∷◌, ◌++◌, Result, Ok, Err, refl}
+use Rattle.std.specs.Prelude.{◌≡◌, List, [], ◌∷◌, ◌++◌, Result, Ok, Err, Vec, length, refl}
+use Rattle.std.specs.Global.{Global}
 use Rattle.std.specs.List.{AllZip}
 use Rattle.std.proofs.Common.{append_assoc}
 use Rattle.std.proofs.lemmas.List.{append-nil}
-use Rattle.gx_rows.specs.declared.cause.Cause.{Cause}
+use Rattle.std.proofs.lemmas.Slice.Zip.{AllZip-long, all_zipped_more}
 use Rattle.gx_rows.specs.declared.eval_stop.EvalStop.{EvalStop}
 use Rattle.gx_rows.specs.declared.eval_stop.EvalStop.TheVariants as eval_stop
 use Rattle.gx_rows.specs.declared.part_stop.PartStop.{PartStop}
@@ -22,12 +23,6 @@ pub record SoFar {A B : Type 0} (returns : A → Result B EvalStop → Type 0) (
   pub split : xs ≡ front ++ rest
   pub fine : AllZip (λ x y. returns x (Ok y)) front ys
 
-AllZip-one_more : {A B : Type 0} (R : A → B → Type 0) (xs : List A) (ys : List B) (x : A) (y : B) → AllZip R xs ys → R x y → AllZip R (xs ++ x ∷ []) (ys ++ y ∷ [])
-AllZip-one_more R [] [] x y all last = (last, tt)
-AllZip-one_more R [] (b ∷ ys) x y all last = absurd all
-AllZip-one_more R (a ∷ xs) [] x y all last = absurd all
-AllZip-one_more R (a ∷ xs) (b ∷ ys) x y all last = (all.0, AllZip-one_more R xs ys x y all.1 last)
-
 -- before the first item
 pub SoFar-start : {A B : Type 0} (returns : A → Result B EvalStop → Type 0) (xs : List A) → SoFar {B = B} returns xs xs []
 SoFar-start returns xs = record { front = []; split = refl; fine = tt }
@@ -40,7 +35,7 @@ SoFar-more {returns = returns} {ys = ys} x rest y so_far first value =
     record {
       front = so_far.front ++ x ∷ [];
       split = rw append_assoc (rw first at split);
-      fine = AllZip-one_more (λ x y. returns x (Ok y)) so_far.front ys x y so_far.fine value;
+      fine = all_zipped_more (λ x y. returns x (Ok y)) so_far.front ys x y so_far.fine value;
     }
 
 -- if no item is left, each has its value
@@ -55,7 +50,10 @@ pub SoFar-stop : {A B V : Type 0} {returns : A → Result B EvalStop → Type 0}
     → SoFar returns xs left ys → left ≡ x ∷ rest → returns x (Err s) → IsTraversal returns key xs makes (Err (stopped_at (key x) s))
 SoFar-stop {ys = ys} key makes x rest (eval_stop.Fault cause node) so_far first stops = record {
   says = record {
-    before = so_far.front; item = x; after = rest; values = ys;
+    before = so_far.front;
+    item = x;
+    after = rest;
+    values = ys;
     split = rw first at so_far.split;
     fine = so_far.fine;
     fault = stops;
@@ -63,3 +61,21 @@ SoFar-stop {ys = ys} key makes x rest (eval_stop.Fault cause node) so_far first 
   };
 }
 SoFar-stop key makes x rest eval_stop.NoMemory so_far first stops = record { says = tt }
+
+-- ---- from a traversal to what is made of its values
+
+-- a refusal is that of the whole
+pub IsTraversal-refused : {A B V W : Type 0} {returns : A → Result B EvalStop → Type 0} {key : A → RowKey} {xs : List A} {makes : List B → V → Type 0} {stop : PartStop} (also : List B → W → Type 0)
+    → IsTraversal returns key xs makes (Err stop) → IsTraversal returns key xs also (Err stop)
+IsTraversal-refused {stop = part_stop.NoMemory} also traversal = record { says = tt }
+IsTraversal-refused {stop = part_stop.Fault k node cause} also traversal = record { says = traversal.says }
+
+-- what is made of the values that were returned
+pub IsTraversal-then : {A B V W : Type 0} {returns : A → Result B EvalStop → Type 0} {key : A → RowKey} {xs : List A} {makes : List B → V → Type 0} {v : V} (also : List B → W → Type 0) (w : W)
+    → IsTraversal returns key xs makes (Ok v) → ((ys : List B) → makes ys v → also ys w) → IsTraversal returns key xs also (Ok w)
+IsTraversal-then also w traversal makes = let said = traversal.says in record { says = (said.0, said.1, makes said.0 said.2) }
+
+-- as many values as items
+pub IsTraversal-length : {A B : Type 0} {returns : A → Result B EvalStop → Type 0} {key : A → RowKey} {xs : List A} {v : Vec B Global}
+    → IsTraversal returns key xs (λ ys values. values.items ≡ ys) (Ok v) → length v.items ≡ length xs
+IsTraversal-length {returns = returns} {xs = xs} traversal = let said = traversal.says in rw said.2 (AllZip-long (λ x y. returns x (Ok y)) xs said.0 said.1)

@@ -2,9 +2,8 @@
 --
 -- `returns item answer` says that the closure may return this at the item. Its contract may allow
 -- several answers; a closure that computes a function allows one, and `exact` then gives the result.
-use Rattle.std.specs.Prelude.{◌≡◌, ℕ, ℤ, pos, List, [], ◌∷◌, ◌++◌, Result, Ok, Err, ⊤, refl}
+use Rattle.std.specs.Prelude.{◌≡◌, ℕ, pos, List, [], ◌∷◌, ◌++◌, Result, Ok, Err, ⊤, refl}
 use Rattle.std.specs.List.{AllZip}
-use Rattle.std.proofs.Common.{sym}
 use Rattle.gx_rows.specs.Results.{try_cons}
 use Rattle.gx_rows.specs.declared.cause.Cause.{Cause}
 use Rattle.gx_rows.specs.declared.cause.Cause.TheVariants.{Overflow}

@@ -1,0 +1,6 @@
+pub mod Chunks
+pub mod MaskedRows
+pub mod Progress
+pub mod Spreading
+pub mod Joining
+pub mod Pairs

@@ -8,5 +8,17 @@
 //! sees edges, expressions or other partitions of the same table.
 #![tactic(auto)]
 
+mod beside;
+mod columns;
+mod joins;
 mod rows;
+mod rows_builder;
+mod slots;
+#[cfg(test)]
+mod tests;
+mod traverse;
+mod vpart;
+mod vrows;
 
+pub use vpart::VPart;
+pub use vrows::VRows;

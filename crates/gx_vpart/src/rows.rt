@@ -2,6 +2,7 @@
 
 ghost use Rattle.std.specs.Prelude.{◌≡◌, ◌+◌, ◌∷◌, ◌<◌, ◌≤◌, ◌^◌, IfOk, List, [], length, slice_get, vec_len};
 ghost use Rattle.std.specs.Option.{option_copied};
+ghost use Rattle.gx_vpart.specs.Chunks.{HasChunksOf, items_of_chunks, shared_chunks};
 
 use gx_rows::{NoMemory, Row};
 use std::alloc::Global;
@@ -27,6 +28,13 @@ impl Model for Rows {
 }
 
 impl Rows {
+    pub fn of_chunks(chunks: Vec<Rc<Vec<Row>>>) -> Rows
+        requires { HasChunksOf 32 (shared_chunks chunks.items) }
+        ensures { result ≡ items_of_chunks (shared_chunks chunks.items) }
+    {
+        Rows { chunks }
+    }
+
     /// The row of a slot; `None` exactly if there is no such slot.
     pub fn get(&self, slot: u32) -> Option<&Row>
         ensures { option_copied result ≡ slice_get self.now slot }

@@ -1,5 +1,5 @@
 use Rattle.gx_index.specs.Ids.{HasDistinctIds-from_ascending}
-use Rattle.gx_index.proofs.Searching.{lookup-IsFound, sorted_by_key}
+use Rattle.gx_index.proofs.Searching.{lookup-IsSearchResult, sorted_by_key}
 use Rattle.gx_index.proofs.ends.Ends.side.Goals as goal
 
 pub find_under-requires : goal.find_under-requires
@@ -8,5 +8,5 @@ find_under-requires c = rw c.as_slice.ensures.value (sorted_by_key (λ e. e.0) c
 pub returns : goal.returns
 returns c =
     rw (← c.self.view_is)
-    (lookup-IsFound c.self.inside.list.items c.args.v c.find_under.result (HasDistinctIds-from_ascending _ c.self.invariant)
+    (lookup-IsSearchResult c.self.inside.list.items c.args.v c.find_under.result (HasDistinctIds-from_ascending _ c.self.invariant)
     (rw c.as_slice.ensures.value at c.find_under.ensures))

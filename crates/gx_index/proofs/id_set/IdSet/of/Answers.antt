@@ -1,4 +1,3 @@
-use Rattle.std.proofs.Common.{rules}
 use Rattle.std.proofs.lemmas.List.Filters.{dedup_is}
 use Rattle.gx_index.proofs.Merging.{IsSetOf-dedup}
 use Rattle.gx_index.proofs.id_set.IdSet.of.Goals as goal

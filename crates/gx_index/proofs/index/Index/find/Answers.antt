@@ -2,7 +2,7 @@ use Rattle.std.proofs.Common.{length, refl, sym, ◌∙◌, get_or}
 use Rattle.std.proofs.lemmas.Option.{slice_get_read}
 use Rattle.gx_index.specs.Ids.{id_cmp-exact}
 use Rattle.gx_index.specs.Slots.{slots_of}
-use Rattle.gx_index.proofs.Searching.{IsFound-IsPermutation, ascending_sorted, lookup-IsFound, search-miss}
+use Rattle.gx_index.proofs.Searching.{IsSearchResult-IsPermutation, ascending_sorted, lookup-IsSearchResult, search-miss}
 use Rattle.gx_index.proofs.Slots.{keys_of-slots_of, lookup-slots_of, slot_of-at, slot_of-none}
 use Rattle.gx_index.proofs.index.Index.find.Goals as goal
 
@@ -27,5 +27,5 @@ returns-in-Some c =
     let slots = rw c.in-Some.is at c.self.invariant.searchable in
     let found = rw c.as_slice-in-Some.ensures.value at c.find_under.ensures in
     rw (← c.self.view_is)
-    (lookup-IsFound (slots_of ids) c.args.v c.find_under.result (rw keys_of-slots_of c.self.invariant.distinct) (IsFound-IsPermutation (slots_of ids) c.in-Some.slots.items c.args.v c.find_under.result slots.1 found)
+    (lookup-IsSearchResult (slots_of ids) c.args.v c.find_under.result (rw keys_of-slots_of c.self.invariant.distinct) (IsSearchResult-IsPermutation (slots_of ids) c.in-Some.slots.items c.args.v c.find_under.result slots.1 found)
     ∙ lookup-slots_of c.args.v ids)

@@ -1,0 +1,74 @@
+//! From items in a row to slots under a mask.
+
+ghost use Rattle.std.specs.Prelude.{◌≡◌, ◌<◌, IfOk, Some, false, length, slice_get, slice_set, [], List};
+ghost use Rattle.std.specs.Vec.Iter.{into_iter_items};
+ghost use Rattle.gx_rows.specs.declared.value.Value.{Value as Cell};
+ghost use Rattle.gx_vpart.specs.Slots.{item_for, items_after, spread_items, thinned_mask};
+
+use crate::rows::Rows;
+use crate::rows_builder::RowsBuilder;
+use gx_mask::Mask;
+use gx_rows::{NoMemory, Row};
+use std::alloc::Global;
+use std::vec::IntoIter;
+
+/// The mask without those of its slots at which the bools, one for each, are false.
+pub fn thin(alloc: Global, mask: &Mask, bools: &[bool]) -> Result<Mask, NoMemory>
+    ensures { IfOk result (λ m. m ≡ thinned_mask mask.now bools.now) }
+{
+    let mut thinned = Mask::new(alloc, mask.len())?;
+    let mut rest = bools;
+    for slot in 0..mask.len() {
+        let (keeps, after) = next_bool(mask.test(slot), rest);
+        put(&mut thinned, slot, keeps);
+        rest = after;
+    }
+    Ok(thinned)
+}
+
+fn next_bool(there: bool, rest: &[bool]) -> (bool, &[bool])
+    ensures item { result.0 ≡ item_for false there rest.now }
+    ensures after { result.1.now ≡ items_after there rest.now }
+{
+    if !there {
+        return (false, rest);
+    }
+    match rest.split_first() {
+        Some((keeps, after)) => (*keeps, after),
+        None => (false, rest),
+    }
+}
+
+fn put(mask: &mut Mask, slot: u32, value: bool)
+    requires { slice_get mask.old slot ≡ Some false }
+    ensures { mask.new ≡ slice_set mask.old slot value }
+{
+    if value {
+        mask.set(slot);
+    }
+}
+
+/// The rows at the slots that the mask has, in order, and an empty row at each other slot.
+pub fn spread(alloc: Global, mask: &Mask, rows: Vec<Row>) -> Result<Rows, NoMemory>
+    ensures { IfOk result (λ r. r ≡ spread_items {A = List Cell} [] mask.now rows.items) }
+{
+    let mut builder = RowsBuilder::new(alloc);
+    let mut rest = rows.into_iter();
+    for slot in 0..mask.len() {
+        builder.push(next_row(alloc, mask.test(slot), &mut rest))?;
+    }
+    builder.finish()
+}
+
+fn next_row(alloc: Global, there: bool, rest: &mut IntoIter<Row>) -> Row
+    ensures item { result ≡ item_for {A = List Cell} [] there (into_iter_items rest.old) }
+    ensures after { into_iter_items rest.new ≡ items_after there (into_iter_items rest.old) }
+{
+    if !there {
+        return Row::of(Vec::new(alloc));
+    }
+    match rest.next() {
+        Some(row) => row,
+        None => Row::of(Vec::new(alloc)),
+    }
+}
