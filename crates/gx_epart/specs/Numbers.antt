@@ -39,9 +39,9 @@ abbrev pub HasKnownEnds : List Vid → Edge → Type 0
 HasKnownEnds ids e = (has_id e.0 ids ≡ true) × (has_id e.1 ids ≡ true)
 
 -- the number, if there is one, is that of the identifier beside it
-abbrev pub IsNumbered : List Vid → Option (Vid × ℕ) → Type 0
-IsNumbered ids None = ⊤
-IsNumbered ids (Some last) = slice_get ids last.1 ≡ Some last.0
+abbrev pub HasItsNumber : List Vid → Option (Vid × ℕ) → Type 0
+HasItsNumber ids None = ⊤
+HasItsNumber ids (Some last) = slice_get ids last.1 ≡ Some last.0
 
 -- the ends of each edge, with the position of its row, from position n on
 abbrev pub locals_from : {R : Type 0} → ℕ → List (ℕ × ℕ × R) → List LocalEdge

@@ -4,7 +4,7 @@ ghost use Rattle.std.specs.Prelude.{◌≡◌, ◌<◌, ◌^◌, All, IfOk, IsSo
 ghost use Rattle.gx_rows.specs.Order.{edge_cmp};
 ghost use Rattle.gx_index.specs.Ids.{IsAscending, has_id};
 ghost use Rattle.gx_epart.specs.Edges.{IsEdgeOrderOf};
-ghost use Rattle.gx_epart.specs.Numbers.{HasIds, HasKnownEnds, IsNumbered, edge_of_numbers, locals_of, sources_and_destinations};
+ghost use Rattle.gx_epart.specs.Numbers.{HasIds, HasKnownEnds, HasItsNumber, edge_of_numbers, locals_of, sources_and_destinations};
 
 use crate::EPart;
 use crate::local_edge::LocalEdge;
@@ -63,7 +63,7 @@ pub fn number_ends(
 // The number of `v`, if the last identifier and its number are these.
 fn number_after(ends: &Index, last: Option<(Vid, u32)>, v: Vid) -> u32
     requires known { has_id v ends.now ≡ true }
-    requires numbered { IsNumbered ends.now last }
+    requires numbered { HasItsNumber ends.now last }
     ensures { slice_get ends.now result ≡ Some v }
 {
     if let Some((id, number)) = last {

@@ -7,8 +7,8 @@ ghost use Rattle.gx_expr.specs.Evaluation.{ScopeValues};
 use crate::side::Side;
 use gx_rows::{Value, Vid};
 
-/// The rows and identifiers that an expression may read. It lends its values, so a kernel makes one
-/// for each row without a copy.
+/// The rows and identifiers that an expression may read. Its values are borrowed, so a kernel makes
+/// one for each row without a copy.
 pub trait Scope {
     // what can be read
     ghost values: { Self → ScopeValues };

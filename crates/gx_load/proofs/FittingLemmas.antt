@@ -17,7 +17,7 @@ use Rattle.gx_load.specs.Cells.{bool_of, int_of, is_blank, words_of}
 use Rattle.gx_load.specs.CellValues.{cell_value, ids_of_cell, list_of_numbers, numbers_in, text_of_cell}
 use Rattle.gx_load.specs.EdgeLists.{edge_at, edge_between, edge_row, ends_in, is_line_space}
 use Rattle.gx_load.specs.Fitting.{FitsColumns}
-use Rattle.gx_load.specs.Loading.{LoadedRow, MOST_ROWS, result_at, cell_at, cells_of, key_at, row_of, rows_from, value_at, values_from}
+use Rattle.gx_load.specs.Loading.{LoadedRow, MOST_ROWS, cell_result, cell_at, cells_of, key_at, row_of, rows_from, value_at, values_from}
 use Rattle.gx_load.specs.declared.load_stop.CellKind.{CellKind}
 use Rattle.gx_load.specs.declared.load_stop.CellKind.TheVariants as cell_kind
 use Rattle.gx_load.specs.declared.load_stop.LoadStop.{LoadStop}
@@ -96,7 +96,7 @@ cell_fits kind.Ids cell v e = ids v e
 value_fits : (row column : ℕ) (kind : ValueKind) (cell : List ℕ) (v : Value) → value_at row column kind cell ≡ Ok v → Fits kind v
 value_fits row column kind cell v e = go (cell_value kind cell) (cell_fits kind cell v) e
   where
-    go : (r : Result Value CellKind) → (r ≡ Ok v → Fits kind v) → result_at row column r ≡ Ok v → Fits kind v
+    go : (r : Result Value CellKind) → (r ≡ Ok v → Fits kind v) → cell_result row column r ≡ Ok v → Fits kind v
     go (Ok x) fits e = let same : x ≡ v = cc in fits (ap Ok same)
     go (Err s) fits e = cc e
 

@@ -67,13 +67,13 @@ key_at row column cell =
     ok_or (int_of cell) (load_stop.Data (row_stop.Cell row column cell_kind.NotInt))
 
 -- what was read in a cell, or the cell's position with what it was refused as
-abbrev pub result_at : {A : Type 0} → ℕ → ℕ → Result A CellKind → Result A LoadStop
-result_at row column (Ok x) = Ok x
-result_at row column (Err refused) = Err (load_stop.Data (row_stop.Cell row column refused))
+abbrev pub cell_result : {A : Type 0} → ℕ → ℕ → Result A CellKind → Result A LoadStop
+cell_result row column (Ok x) = Ok x
+cell_result row column (Err refused) = Err (load_stop.Data (row_stop.Cell row column refused))
 
 -- the value of this kind in a cell of a row
 abbrev pub value_at : ℕ → ℕ → ValueKind → List ℕ → Result Value LoadStop
-value_at row column kind cell = result_at row column (cell_value kind cell)
+value_at row column kind cell = cell_result row column (cell_value kind cell)
 
 -- the values of a row whose columns have these kinds and are numbered from this one on
 unfoldable pub values_from : ℕ → ℕ → List ValueKind → List ℕ → List (List ℕ) → Result (List Value) LoadStop
