@@ -1,10 +1,12 @@
 //! Edges by numbers.
 
-/// An edge of a partition: the numbers of its ends, which are positions among the ends of the
-/// partition, and the position of its row among the rows.
+/// An edge of a partition, by numbers.
 #[derive(Clone, Copy, Debug, PartialEq, Eq)]
 pub struct LocalEdge {
+    /// The position of the source among the ends of the partition.
     pub src: u32,
+    /// The position of the destination there.
     pub dst: u32,
+    /// The position of the row among the rows of the partition.
     pub row: u32,
 }

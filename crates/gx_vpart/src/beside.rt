@@ -39,6 +39,7 @@ impl<'a> Model for Beside<'a> {
 }
 
 impl<'a> Beside<'a> {
+    /// From the start of both lists.
     pub fn of(left: VRows<'a>, right: VRows<'a>) -> Beside<'a>
         requires left { IsAscending (keys_of left) }
         requires right { IsAscending (keys_of right) }

@@ -28,6 +28,7 @@ impl Model for Rows {
 }
 
 impl Rows {
+    /// The rows of these chunks, of which each but the last has 32.
     pub fn of_chunks(chunks: Vec<Rc<Vec<Row>>>) -> Rows
         requires { HasChunksOf 32 (shared_chunks chunks.items) }
         ensures { result ≡ items_of_chunks (shared_chunks chunks.items) }

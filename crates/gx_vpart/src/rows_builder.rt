@@ -31,6 +31,7 @@ impl Model for RowsBuilder {
 }
 
 impl RowsBuilder {
+    /// No row yet.
     pub fn new(alloc: Global) -> RowsBuilder
         ensures { result ≡ [] }
     {

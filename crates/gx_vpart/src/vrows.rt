@@ -33,6 +33,7 @@ impl<'a> Model for VRows<'a> {
 }
 
 impl<'a> VRows<'a> {
+    /// The rows of the slots that the mask chooses, from the first slot on.
     pub fn of(mask: &'a Mask, ids: &'a [Vid], rows: &'a Rows) -> VRows<'a>
         requires { HasSlots mask.now ids.now rows.now }
         ensures { result ≡ masked_rows mask.now ids.now rows.now }
