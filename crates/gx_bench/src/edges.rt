@@ -104,11 +104,7 @@ fn partition_of(alloc: Global, edges: Vec<(Vid, Vid, Row)>) -> Result<EPart, NoM
     EPart::from_edges(alloc, edges)
 }
 
-fn measure_copy(
-    alloc: Global,
-    given: &[(Vid, Vid, Row)],
-    rounds: u32,
-) -> Result<Totals, PartStop> {
+fn measure_copy(alloc: Global, given: &[(Vid, Vid, Row)], rounds: u32) -> Result<Totals, PartStop> {
     for _ in 0..rounds {
         let _ = copies(alloc, given)?;
     }

@@ -55,10 +55,7 @@ fn run<R: Env + Files + Print + AllocGlobal>(rt: &R) -> Result<(), Stop> {
 
 fn args_of<R: Env + AllocGlobal>(rt: &R) -> Result<Vec<String>, Stop> {
     match env::args(rt) {
-        Ok(args) => args
-            .skip(1)
-            .collect(rt.alloc())
-            .map_err(|_| Stop::NoMemory),
+        Ok(args) => args.skip(1).collect(rt.alloc()).map_err(|_| Stop::NoMemory),
         Err(error) if error.kind() == ErrorKind::OutOfMemory => Err(Stop::NoMemory),
         Err(_) => Err(Stop::Usage),
     }

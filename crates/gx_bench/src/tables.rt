@@ -141,12 +141,7 @@ impl TableCall {
     }
 }
 
-fn measure_copy(
-    alloc: Global,
-    shape: Shape,
-    count: u32,
-    rounds: u32,
-) -> Result<Totals, PartStop> {
+fn measure_copy(alloc: Global, shape: Shape, count: u32, rounds: u32) -> Result<Totals, PartStop> {
     let given = vertices(alloc, shape, count, 1)?;
     for _ in 0..rounds {
         let _ = copies(alloc, given.as_slice())?;
@@ -167,12 +162,7 @@ fn measure_of(alloc: Global, shape: Shape, count: u32, rounds: u32) -> Result<To
     }
 }
 
-fn measure_rows(
-    alloc: Global,
-    shape: Shape,
-    count: u32,
-    rounds: u32,
-) -> Result<Totals, PartStop> {
+fn measure_rows(alloc: Global, shape: Shape, count: u32, rounds: u32) -> Result<Totals, PartStop> {
     let all = partition(alloc, shape, count, 1)?;
     let mut totals = Totals::none();
     for _ in 0..rounds {

@@ -1,0 +1,105 @@
+"""Builds gx_bench and its counterpart in plain Rust, and measures their tasks from outside.
+
+A task is an operation, a shape and an input. A program does the operation ROUNDS times and keeps each
+result until it ends, so the cost of one result is the growth from a few rounds to more, divided by
+their difference: what is needed to make the input is in neither. Of several runs the least counts.
+"""
+
+import os
+import subprocess
+import sys
+import tempfile
+from pathlib import Path
+
+TOP = Path(__file__).resolve().parent.parent
+GX_BENCH = TOP / "crates/gx_bench"
+FEW = 1
+MORE = {"gx": 11, "plain": 21}
+
+
+class Bench:
+    """The two programs, in a folder of their own for what they need."""
+
+    def __init__(self, folder, tries):
+        self.folder = Path(folder)
+        self.tries = tries
+        self.programs = {"gx": gx_program(), "plain": plain_program(self.folder)}
+        # The line that each task printed, by its words.
+        self.lines = {}
+
+    def run(self, program, task, rounds):
+        """The processor seconds and the peak memory in bytes of one run."""
+        words = [*map(str, task), str(rounds)]
+        out = self.folder / "out"
+        with open(out, "wb") as stream:
+            child = subprocess.Popen([self.programs[program], *words], cwd=self.folder, stdout=stream)
+            _, status, usage = os.wait4(child.pid, 0)
+        code = os.waitstatus_to_exitcode(status)
+        if code != 0:
+            sys.exit(f"{program} {words} ended with status {code}")
+        self.compare(program, task, rounds, out.read_text())
+        return usage.ru_utime + usage.ru_stime, usage.ru_maxrss * 1024
+
+    def compare(self, program, task, rounds, line):
+        """Both programs must print the same totals, of rows whatever the number of rounds is."""
+        totals = line.partition(": ")[2]
+        key = (*task, rounds if task[0] == "rows" else 0)
+        if self.lines.setdefault(key, totals) != totals:
+            sys.exit(f"{program} {task} printed {totals!r}, and {self.lines[key]!r} before")
+
+    def cost(self, program, task):
+        """The processor seconds and the bytes that one result takes."""
+        more = MORE[program]
+        costs = []
+        for rounds in (FEW, more):
+            runs = [self.run(program, task, rounds) for _ in range(self.tries)]
+            costs.append([min(figures) for figures in zip(*runs)])
+        return [(high - low) / (more - FEW) for low, high in zip(*costs)]
+
+
+def output_of(command, **more):
+    return subprocess.run(command, stdout=subprocess.PIPE, text=True, check=True, **more).stdout.strip()
+
+
+def gx_program():
+    """The program of these sources. It is proved and built first if a source has changed since."""
+    program, record = GX_BENCH / "out/gx_bench", GX_BENCH / "out/gx_bench.sources"
+    sources = output_of([TOP / "tools/sources"])
+    if not (program.exists() and record.exists() and record.read_text() == sources):
+        print("proving and building gx_bench, which takes some minutes", file=sys.stderr)
+        subprocess.run(["rt", "run"], cwd=GX_BENCH, stdin=subprocess.DEVNULL, stdout=subprocess.DEVNULL, check=True)
+        record.write_text(sources)
+    return program
+
+
+def plain_program(folder):
+    program = folder / "plain"
+    source = TOP / "bench/plain/main.rs"
+    subprocess.run(["rustc", "--edition", "2021", "-O", "-o", program, source], check=True)
+    return program
+
+
+def run_bench(arguments, measure):
+    """Calls `measure` with the programs."""
+    with tempfile.TemporaryDirectory() as folder:
+        measure(Bench(folder, arguments.tries), arguments)
+
+
+def machine():
+    """Which machine this is and how busy it is, for the head of a table."""
+    names = [line for line in Path("/proc/cpuinfo").read_text().splitlines() if line.startswith("model name")]
+    name = names[0].partition(": ")[2] if names else "unknown processor"
+    return f"{len(names)} processors, {name}; load {os.getloadavg()[0]:.2f}"
+
+
+def head(*cells):
+    return "| " + " | ".join(cells) + " |\n" + "|" + "---|" * len(cells)
+
+
+def row(*cells):
+    return "| " + " | ".join(cells) + " |"
+
+
+def ratio(gx, plain):
+    """How many times; nothing if the measure of plain Rust is too small to divide by."""
+    return f"{gx / plain:.1f}" if plain > 0 else "-"
