@@ -1,8 +1,9 @@
 """Builds gx_bench and its counterpart in plain Rust, and measures their tasks from outside.
 
 A task is an operation, a shape and an input. A program does the operation ROUNDS times and keeps each
-result until it ends, so the cost of one result is the growth from a few rounds to more, divided by
-their difference: what is needed to make the input is in neither. Of several runs the least counts.
+result until it ends, so the cost of one result is the growth from one round to more, divided by the
+number of rounds more: what it takes to make the input is not in it. The least of several runs counts.
+Memory is that at its peak, so results that stay below the peak of making the input seem to take none.
 """
 
 import os
@@ -13,8 +14,9 @@ from pathlib import Path
 
 TOP = Path(__file__).resolve().parent.parent
 GX_BENCH = TOP / "crates/gx_bench"
-FEW = 1
-MORE = {"gx": 11, "plain": 21}
+MORE_ROUNDS = {"gx": 10, "plain": 40}
+# A walk keeps nothing and is soon done.
+WALK_ROUNDS = {"gx": 100, "plain": 1000}
 
 
 class Bench:
@@ -49,12 +51,12 @@ class Bench:
 
     def cost(self, program, task):
         """The processor seconds and the bytes that one result takes."""
-        more = MORE[program]
+        more = (WALK_ROUNDS if task[0] == "rows" else MORE_ROUNDS)[program]
         costs = []
-        for rounds in (FEW, more):
+        for rounds in (1, 1 + more):
             runs = [self.run(program, task, rounds) for _ in range(self.tries)]
             costs.append([min(figures) for figures in zip(*runs)])
-        return [(high - low) / (more - FEW) for low, high in zip(*costs)]
+        return [(high - low) / more for low, high in zip(*costs)]
 
 
 def output_of(command, **more):
@@ -63,12 +65,19 @@ def output_of(command, **more):
 
 def gx_program():
     """The program of these sources. It is proved and built first if a source has changed since."""
-    program, record = GX_BENCH / "out/gx_bench", GX_BENCH / "out/gx_bench.sources"
+    out = GX_BENCH / "out"
+    program, record, log = out / "gx_bench", out / "gx_bench.sources", out / "build.log"
     sources = output_of([TOP / "tools/sources"])
-    if not (program.exists() and record.exists() and record.read_text() == sources):
-        print("proving and building gx_bench, which takes some minutes", file=sys.stderr)
-        subprocess.run(["rt", "run"], cwd=GX_BENCH, stdin=subprocess.DEVNULL, stdout=subprocess.DEVNULL, check=True)
-        record.write_text(sources)
+    if program.exists() and record.exists() and record.read_text() == sources:
+        return program
+    print("proving and building gx_bench, which takes some minutes", file=sys.stderr)
+    out.mkdir(exist_ok=True)
+    with open(log, "wb") as stream:
+        streams = {"stdin": subprocess.DEVNULL, "stdout": stream, "stderr": stream}
+        ended = subprocess.run(["rt", "run"], cwd=GX_BENCH, **streams)
+    if ended.returncode != 0:
+        sys.exit(f"gx_bench was not built; {log} says why")
+    record.write_text(sources)
     return program
 
 

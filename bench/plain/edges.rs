@@ -67,17 +67,25 @@ impl Edges {
 
     /// The distinct ends in ascending order; for each whether it is a source, and a destination.
     pub fn ends(&self) -> Vec<(i64, bool, bool)> {
-        let sources = self.src.iter().map(|&v| (v, true, false));
-        let mut ends: Vec<_> = sources.chain(self.dst.iter().map(|&v| (v, false, true))).collect();
-        ends.sort_unstable();
-        ends.dedup_by(|next, end| {
-            let same = next.0 == end.0;
-            if same {
-                end.1 |= next.1;
-                end.2 |= next.2;
-            }
-            same
-        });
+        let mut sources = self.src.clone();
+        let mut targets = self.dst.clone();
+        targets.sort_unstable();
+        sources.dedup();
+        targets.dedup();
+        let mut ends = Vec::with_capacity(sources.len().max(targets.len()));
+        let (mut i, mut j) = (0, 0);
+        while i < sources.len() || j < targets.len() {
+            let id = match (sources.get(i), targets.get(j)) {
+                (Some(src), Some(dst)) => *src.min(dst),
+                (Some(id), None) | (None, Some(id)) => *id,
+                (None, None) => break,
+            };
+            let is_source = sources.get(i) == Some(&id);
+            let is_target = targets.get(j) == Some(&id);
+            i += usize::from(is_source);
+            j += usize::from(is_target);
+            ends.push((id, is_source, is_target));
+        }
         ends
     }
 }
