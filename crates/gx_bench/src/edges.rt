@@ -10,7 +10,7 @@ use gx_rows::{NoMemory, PartStop, Row, Vid};
 use std::alloc::Global;
 
 /// A call of edge partitions.
-#[derive(Clone, Copy, Debug, PartialEq, Eq)]
+#[derive(Clone, Copy)]
 pub enum EdgeCall {
     /// A copy of the edges, which `FromEdges` makes too, before the call.
     Copy,

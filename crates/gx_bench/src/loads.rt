@@ -9,7 +9,7 @@ use gx_rows::{NoMemory, Row, RowType, Text, Value, ValueKind, Vid};
 use std::alloc::Global;
 
 /// A kind of file.
-#[derive(Clone, Copy, Debug, PartialEq, Eq)]
+#[derive(Clone, Copy)]
 pub enum FileKind {
     /// A CSV file with the columns `id` and `a`.
     Vertices,

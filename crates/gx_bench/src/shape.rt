@@ -4,7 +4,7 @@ use gx_rows::{NoMemory, Row, Text, Value};
 use std::alloc::Global;
 
 /// Which values a row has. The last one is the number of the row.
-#[derive(Clone, Copy, Debug, PartialEq, Eq)]
+#[derive(Clone, Copy)]
 pub enum Shape {
     /// One int.
     Int,

@@ -4,7 +4,7 @@ use gx_load::LoadStop;
 use gx_rows::PartStop;
 
 /// Why the program stops.
-#[derive(Clone, Copy, Debug, PartialEq, Eq)]
+#[derive(Clone, Copy)]
 pub enum Stop {
     /// An operation refused its input.
     Refused,

@@ -9,7 +9,7 @@ use gx_vpart::VPart;
 use std::alloc::Global;
 
 /// A call of vertex partitions, with the partitions that it is given.
-#[derive(Clone, Copy, Debug, PartialEq, Eq)]
+#[derive(Clone, Copy)]
 pub enum TableCall {
     /// A copy of the vertices, which `Of` makes too, before the call.
     Copy,

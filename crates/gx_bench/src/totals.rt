@@ -1,7 +1,7 @@
 //! What a measured operation prints of its result.
 
 /// The number of items and a sum over them, by which a run shows that it did its work.
-#[derive(Clone, Copy, Debug, PartialEq, Eq)]
+#[derive(Clone, Copy)]
 pub struct Totals {
     /// The number of items.
     pub items: u64,
