@@ -1,12 +1,12 @@
 """Builds gx_bench and its counterpart in plain Rust, and measures their tasks from outside.
 
 A task is an operation, a shape and an input. A program does the operation ROUNDS times and keeps each
-result until it ends, so the cost of one result is the growth from one round to more, divided by the
-number of rounds more: what it takes to make the input is not in it. The least of several runs counts.
-Memory is that at its peak, so results that stay below the peak of making the input seem to take none.
+result until it ends, so the cost of one result is the growth from some rounds to more, divided by the
+number of rounds more: what it takes to make the input is not in it.
 """
 
 import os
+import resource
 import subprocess
 import sys
 import tempfile
@@ -17,6 +17,12 @@ GX_BENCH = TOP / "crates/gx_bench"
 MORE_ROUNDS = {"gx": 10, "plain": 40}
 # A walk keeps nothing and is soon done.
 WALK_ROUNDS = {"gx": 100, "plain": 1000}
+
+# Memory is seen at its peak alone, so what is kept has to be more than the peak of making the input:
+# this many results, or that many of calls that share most of their rows.
+KEPT_ROUNDS = 6
+KEPT_LIGHT_ROUNDS = 50
+LIGHT = {"filter", "minus", "diff", "filter_edges", "reverse", "ends"}
 
 
 class Bench:
@@ -49,14 +55,22 @@ class Bench:
         if self.lines.setdefault(key, totals) != totals:
             sys.exit(f"{program} {task} printed {totals!r}, and {self.lines[key]!r} before")
 
-    def cost(self, program, task):
-        """The processor seconds and the bytes that one result takes."""
+    def seconds(self, program, task):
+        """The processor seconds that one result takes, by the least of several runs."""
         more = (WALK_ROUNDS if task[0] == "rows" else MORE_ROUNDS)[program]
-        costs = []
-        for rounds in (1, 1 + more):
-            runs = [self.run(program, task, rounds) for _ in range(self.tries)]
-            costs.append([min(figures) for figures in zip(*runs)])
-        return [(high - low) / more for low, high in zip(*costs)]
+        low, high = (
+            min(self.run(program, task, rounds)[0] for _ in range(self.tries)) for rounds in (1, 1 + more)
+        )
+        return (high - low) / more
+
+    def kept_bytes(self, program, task):
+        """The bytes that one result keeps; `None` if this script itself takes as much memory."""
+        rounds = KEPT_LIGHT_ROUNDS if task[0] in LIGHT else KEPT_ROUNDS
+        low, high = (self.run(program, task, times)[1] for times in (rounds, 2 * rounds))
+        # A program begins with the peak of what started it.
+        if low <= 1.5 * resource.getrusage(resource.RUSAGE_SELF).ru_maxrss * 1024:
+            return None
+        return (high - low) / rounds
 
 
 def output_of(command, **more):
@@ -112,3 +126,12 @@ def row(*cells):
 def ratio(gx, plain):
     """How many times; nothing if the measure of plain Rust is too small to divide by."""
     return f"{gx / plain:.1f}" if plain > 0 else "-"
+
+
+def ms(seconds):
+    return f"{1000 * seconds:.1f}"
+
+
+def bytes_a_row(size, rows):
+    # A sum with 0, so that no figure is shown as -0.0.
+    return "-" if size is None else str(round(size / rows, 1) + 0.0)
