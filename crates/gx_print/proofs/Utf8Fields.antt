@@ -10,7 +10,9 @@ use lib.Utf8.{scalar, scalars, encode, encodes, low_scalar}
 
 -- a byte of ASCII before a text
 after_ascii : (x : ℕ) (xs : List ℕ) → x < 128 → IsUtf8 xs → IsUtf8 (x ∷ xs)
-after_ascii x xs small u = IsUtf8-append (x ∷ []) xs (subst IsUtf8 (encode_ascii x small) (IsUtf8-encode x (low_scalar x (omega arith)))) u
+after_ascii x xs small u =
+    let first : IsUtf8 (x ∷ []) = subst IsUtf8 (encode_ascii x small) (IsUtf8-encode x (low_scalar x (omega arith))) in
+    IsUtf8-append (x ∷ []) xs first u
 
 either_utf8 : (b : Bool) (xs ys : List ℕ) → IsUtf8 xs → IsUtf8 ys → IsUtf8 (cond b xs ys)
 either_utf8 true xs ys u v = u
@@ -24,37 +26,46 @@ no_quote (x ∷ xs) h =
     let other : (x == 34) ≡ false = ne_eqb x 34 (λ e. omega arith) in
     rw (other, no_quote xs (λ k below. h (suc k) (omega arith))) refl
 
+-- a character that is not ASCII has no byte of ASCII
+bytes_above : (c : ℕ) → 128 ≤ c → (k : ℕ) → k < length (encode c) → 128 ≤ get_or (encode c) k 0
+bytes_above c big k below = elim (cases_lt (get_or (encode c) k 0) 128) [
+  | inl low ↦ absurd (omega (arith, inside_one c [] (encode c) k (sym (append-nil _)) below low))
+  | inr high ↦ high
+]
+
 -- a character between quotes
 char_utf8 : (c : ℕ) → scalar c ≡ true → IsUtf8 (escaped default_writer (encode c))
 char_utf8 c ok = elim (cases_lt c 128) [
   | inl small ↦ elim (cases_eq c 34) [
     | inl is ↦
-        rw (encode_ascii c small, escaped-double default_writer c is refl) (after_ascii c (c ∷ []) small (after_ascii c [] small IsUtf8-nil))
-    | inr other ↦ rw (encode_ascii c small, escaped-other default_writer c other) (after_ascii c [] small IsUtf8-nil)
+        rw (encode_ascii c small, escaped-double default_writer c is refl)
+        (after_ascii c (c ∷ []) small (after_ascii c [] small IsUtf8-nil))
+    | inr other ↦
+        rw (encode_ascii c small, escaped-other default_writer c other) (after_ascii c [] small IsUtf8-nil)
   ]
   | inr big ↦
-      let high : (k : ℕ) → k < length (encode c) → 128 ≤ get_or (encode c) k 0 = λ k below. elim (cases_lt (get_or (encode c) k 0) 128) [
-        | inl low ↦ absurd (omega (arith, inside_one c [] (encode c) k (sym (append-nil _)) below low))
-        | inr h ↦ h
-      ] in
-      subst IsUtf8 (sym (escaped-none default_writer (encode c) (no_quote (encode c) high))) (IsUtf8-encode c ok)
+      let same = escaped-none default_writer (encode c) (no_quote (encode c) (bytes_above c big)) in
+      subst IsUtf8 (sym same) (IsUtf8-encode c ok)
 ]
 
 chars_utf8 : (cs : List ℕ) → scalars cs ≡ true → IsUtf8 (escaped default_writer (encodes cs))
 unfolding escaped
 chars_utf8 [] e = IsUtf8-nil
 chars_utf8 (c ∷ cs) e =
-    let p = and_parts _ _ e in
-    subst IsUtf8 (sym (escaped-append default_writer (encode c) (encodes cs))) (IsUtf8-append _ _ (char_utf8 c p.0) (chars_utf8 cs p.1))
+    let each = and_parts _ _ e in
+    let both = IsUtf8-append _ _ (char_utf8 c each.0) (chars_utf8 cs each.1) in
+    subst IsUtf8 (sym (escaped-append default_writer (encode c) (encodes cs))) both
 
 quoted_utf8 : (field : List ℕ) → IsUtf8 field → IsUtf8 (quoted default_writer field)
 quoted_utf8 field u =
-    after_ascii 34 _ (omega arith)
-    (IsUtf8-append _ _ (subst (λ f. IsUtf8 (escaped default_writer f)) u.1.1 (chars_utf8 u.0 u.1.0)) (after_ascii 34 [] (omega arith) IsUtf8-nil))
+    let inner = subst (λ f. IsUtf8 (escaped default_writer f)) u.1.1 (chars_utf8 u.0 u.1.0) in
+    let close = after_ascii 34 [] (omega arith) IsUtf8-nil in
+    after_ascii 34 _ (omega arith) (IsUtf8-append _ _ inner close)
 
 -- a field as it is written
 pub field_utf8 : (field : List ℕ) → IsUtf8 field → IsUtf8 (field_text default_writer field)
-field_utf8 field u = either_utf8 (needs_quotes default_writer field) (quoted default_writer field) field (quoted_utf8 field u) u
+field_utf8 field u =
+    either_utf8 (needs_quotes default_writer field) (quoted default_writer field) field (quoted_utf8 field u) u
 
 -- what stands before a field
 pub separator_utf8 : (n : ℕ) → IsUtf8 (next_sep default_writer n)
@@ -63,6 +74,6 @@ separator_utf8 n = either_utf8 (n == 0) [] (44 ∷ []) IsUtf8-nil (after_ascii 4
 -- what ends a line
 pub end_utf8 : (wrote : Bool) (n : ℕ) → IsUtf8 (tail_text default_writer wrote n)
 end_utf8 wrote n =
-    IsUtf8-append _ _
-    (either_utf8 _ (34 ∷ 34 ∷ []) [] (after_ascii 34 _ (omega arith) (after_ascii 34 [] (omega arith) IsUtf8-nil)) IsUtf8-nil)
-    (after_ascii 10 [] (omega arith) IsUtf8-nil)
+    let quotes = after_ascii 34 (34 ∷ []) (omega arith) (after_ascii 34 [] (omega arith) IsUtf8-nil) in
+    let feed = after_ascii 10 [] (omega arith) IsUtf8-nil in
+    IsUtf8-append _ _ (either_utf8 _ (34 ∷ 34 ∷ []) [] quotes IsUtf8-nil) feed

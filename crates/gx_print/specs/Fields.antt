@@ -1,5 +1,5 @@
 -- The field of a value: what stands between two commas, before `csv` quotes it.
-use Rattle.std.specs.Prelude.{◌≡◌, ℕ, ℤ, List, [], ◌∷◌, ◌++◌, codes, if◌then◌else◌, refl}
+use Rattle.std.specs.Prelude.{ℕ, ℤ, List, [], ◌∷◌, ◌++◌, codes, if◌then◌else◌}
 use Rattle.std.specs.List.{flat_map}
 use Rattle.std.specs.Fmt.{signed_decimal}
 use Rattle.gx_rows.specs.declared.value.Value.{Value}

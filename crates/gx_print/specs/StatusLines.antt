@@ -1,14 +1,19 @@
 -- The line that tells why a run ended, to the byte.
-use Rattle.std.specs.Prelude.{◌≡◌, ℕ, ⊤, List, [], ◌∷◌, ◌++◌, Option, None, Some, codes, decimal, is_some, true, false, refl}
-use Rattle.std.specs.Fmt.{signed_decimal}
+use Rattle.std.specs.Prelude.{◌≡◌, ℕ, ⊤, List, [], ◌∷◌, ◌++◌, Option, None, Some, codes, decimal, is_some, true, false, pos, negsuc, refl}
+use Rattle.std.specs.Fmt.{digits, signed_decimal}
 use Rattle.std.specs.List.{concat}
+use Rattle.gx_load.specs.declared.load_stop.CellKind.TheVariants as cell
 use Rattle.gx_load.specs.declared.load_stop.RowStop.{RowStop}
 use Rattle.gx_load.specs.declared.load_stop.RowStop.TheVariants as row_stop
 use Rattle.gx_rows.specs.Limits.{most_of}
+use Rattle.gx_rows.specs.declared.cause.Cause.TheVariants as cause
 use Rattle.gx_rows.specs.declared.fault.Fault.{Fault}
 use Rattle.gx_rows.specs.declared.limit_kind.LimitKind.{LimitKind}
+use Rattle.gx_rows.specs.declared.limit_kind.LimitKind.TheVariants as limit
 use Rattle.gx_rows.specs.declared.row_key.RowKey.{RowKey}
 use Rattle.gx_rows.specs.declared.row_key.RowKey.TheVariants as row_key
+use Rattle.gx_syntax_tokens.specs.declared.syntax_kind.SyntaxKind.TheVariants as syntax_kind
+use Rattle.gx_types_exprs.specs.declared.type_kind.TypeKind.TheVariants as type_kind
 use Rattle.gx_print.specs.Messages.{cause_message, cell_message, limit_name, syntax_message, type_message}
 use Rattle.gx_print.specs.declared.status.ScriptStop.{ScriptStop}
 use Rattle.gx_print.specs.declared.status.ScriptStop.TheVariants as script_stop
@@ -17,13 +22,15 @@ use Rattle.gx_print.specs.declared.status.Status.TheVariants as status
 
 -- a refused script: an offset, a statement, or an expression of a statement
 unfoldable pub script_line : ScriptStop → List ℕ
-script_line (script_stop.NotUtf8 offset) = concat (codes "script: byte " ∷ decimal offset ∷ codes ": not UTF-8\n" ∷ [])
+script_line (script_stop.NotUtf8 offset) =
+    concat (codes "script: byte " ∷ decimal offset ∷ codes ": not UTF-8\n" ∷ [])
 script_line (script_stop.Syntax offset kind) =
     concat (codes "script: byte " ∷ decimal offset ∷ codes ": " ∷ syntax_message kind ∷ codes "\n" ∷ [])
 script_line (script_stop.Typing statement None kind) =
     concat (codes "script: statement " ∷ decimal statement ∷ codes ": " ∷ type_message kind ∷ codes "\n" ∷ [])
 script_line (script_stop.Typing statement (Some expr) kind) =
-    concat (codes "script: statement " ∷ decimal statement ∷ codes ", expression " ∷ decimal expr ∷ codes ": " ∷ type_message kind ∷ codes "\n" ∷ [])
+    concat (codes "script: statement " ∷ decimal statement ∷ codes ", expression " ∷ decimal expr
+    ∷ codes ": " ∷ type_message kind ∷ codes "\n" ∷ [])
 
 -- a refused data file: a column that its header lacks, a row, a cell, or a line of an edge list
 unfoldable pub data_line : List ℕ → List ℕ → RowStop → List ℕ
@@ -96,3 +103,41 @@ HasStatusText (status.Limit kind) = ⊤
 HasStatusText (status.Source name) = ⊤
 HasStatusText status.Sink = ⊤
 HasStatusText status.NoMemory = ⊤
+
+an_unknown_column : ScriptStop
+an_unknown_column = script_stop.Typing 4 (Some 2) type_kind.ColumnUnknown
+
+script_lines : (script_line (script_stop.NotUtf8 7) ≡ codes "script: byte 7: not UTF-8\n")
+    × (script_line (script_stop.Syntax 18 syntax_kind.Unexpected)
+    ≡ codes "script: byte 18: not expected here\n")
+    × (script_line (script_stop.Typing 1 None type_kind.NameUnknown)
+    ≡ codes "script: statement 1: name unknown\n")
+    × (script_line an_unknown_column ≡ codes "script: statement 4, expression 2: column unknown\n")
+unfolding script_line an_unknown_column digits
+script_lines = (refl, refl, refl, refl)
+
+data_lines : (data_line (codes "f") (codes "id") (row_stop.Header 0) ≡ codes "data: f: column id missing\n")
+    × (data_line (codes "f") [] (row_stop.Shape 1) ≡ codes "data: f: row 1: shape\n")
+    × (data_line (codes "f") (codes "age") (row_stop.Cell 2 1 cell.NotInt)
+    ≡ codes "data: f: row 2, column age: not an int\n")
+    × (data_line (codes "f") [] (row_stop.Line 6) ≡ codes "data: f: line 6: not an edge\n")
+unfolding data_line digits
+data_lines = (refl, refl, refl, refl)
+
+a_vertex : RowKey
+a_vertex = row_key.Vertex (record { 0 = pos 5 })
+
+an_edge : RowKey
+an_edge = row_key.Edge (record { 0 = negsuc 8 }) (record { 0 = pos 3 }) []
+
+fault_lines : (fault_line (record { statement = 4; key = a_vertex; expr = 1; cause = cause.Overflow })
+    ≡ codes "fault: statement 4, vertex 5, expression 1: overflow\n")
+    × (fault_line (record { statement = 2; key = an_edge; expr = 0; cause = cause.DivideByZero })
+    ≡ codes "fault: statement 2, edge -9 3, expression 0: divide by zero\n")
+unfolding fault_line key_text a_vertex an_edge digits
+fault_lines = (refl, refl)
+
+limit_lines : (limit_line limit.FileBytes ≡ codes "limit: file bytes 33554432\n")
+    × (limit_line limit.Rounds ≡ codes "limit: rounds of a pregel 1000\n")
+unfolding limit_line digits
+limit_lines = (refl, refl)

@@ -20,7 +20,8 @@ pub record IsAtLineStart (w : Writer (Vec ℕ Global)) : Type 0 where
 pub record IsInLine (before : List ℕ) (fields : List (List ℕ)) (w : Writer (Vec ℕ Global)) : Type 0 where
   pub setup : writer_setup w ≡ default_writer
   pub count : fields_written w ≡ length fields
-  pub blank : is_blank default_writer fields ≡ (not (has_written w) && ((length fields == 0) || (length fields == 1)))
+  pub blank : is_blank default_writer fields
+      ≡ (not (has_written w) && ((length fields == 0) || (length fields == 1)))
   pub text : written_text w ≡ before ++ row_body default_writer fields
   pub utf8 : IsUtf8 (written_text w)
 

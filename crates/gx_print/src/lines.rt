@@ -1,7 +1,8 @@
 //! Lines of `csv` over one vector of bytes, written field by field.
 //!
-//! A writer of `csv` checks that all lines have as many fields as the first, and writes to memory:
-//! so the one error that can come here is that memory runs out.
+//! A writer of `csv` refuses a line that has another number of fields than the first, which no
+//! caller writes, and otherwise fails only as what it writes to does. Here that is memory, so each
+//! of its errors is `NoMemory`.
 
 ghost use Rattle.std.specs.Prelude.{◌≡◌, ◌++◌, IfOk, OnOk};
 ghost use Rattle.gx_print.specs.RowTexts.{line_of_fields, line_of_row};

@@ -21,13 +21,13 @@ use gx_rows::{Fault, LimitKind, NoMemory, RowKey, Text, Vid};
 use gx_types_exprs::TypeKind;
 use std::alloc::Global;
 
-// The three commands. A script is run, shown, or made from a number.
+// The three commands: run a script, show it as it is parsed, and run the sample.
 const USAGE: &str =
     "usage: gx run SCRIPT [--parts N] [--cut 1d|2d|random|canonical|rows] [--workers N] \
      [--schedule FILE] [--report] | gx show SCRIPT | gx sample SEED N\n";
 
 /// The line that is written to the error output if a run ends with this status, its line feed
-/// included. `Done` has none.
+/// included. `Done` has none, so it may not be passed, and a refused column must have its name.
 ///
 /// # Errors
 ///

@@ -5,4 +5,5 @@ use Rattle.gx_print.proofs.lines.write_values.Given as goal
 
 -- the fields of the values so far are written
 abbrev pub invariant-loop-value : goal.invariant-loop-value
-invariant-loop-value l = IsInLine (written_text l.fn.writer) (map value_field (take l.value-index l.values)) l.writer
+invariant-loop-value l =
+    IsInLine (written_text l.fn.writer) (map value_field (take l.value-index l.values)) l.writer
