@@ -1,5 +1,5 @@
 -- What `csv` writes of a text is UTF-8.
-use Rattle.std.proofs.Common.{◌≡◌, ℕ, suc, ◌<◌, ◌≤◌, Bool, true, false, cond, List, [], ◌∷◌, ◌++◌, length, get_or, IsUtf8, inl, inr, refl, sym, subst, arith, append-nil}
+use Rattle.std.proofs.Common.{◌≡◌, ℕ, suc, ◌<◌, ◌≤◌, Bool, true, false, cond, List, [], ◌∷◌, length, get_or, IsUtf8, inl, inr, refl, sym, subst, arith, append-nil}
 use Rattle.std.proofs.lemmas.Bool.{and_parts, cases_eq, cases_lt, ne_eqb}
 use Rattle.std.proofs.lemmas.Str.{IsUtf8-append, IsUtf8-nil, IsUtf8-encode, encode_ascii, inside_one}
 use Rattle.std.specs.List.{list_any}
@@ -11,7 +11,8 @@ use lib.Utf8.{scalar, scalars, encode, encodes, low_scalar}
 -- a byte of ASCII before a text
 after_ascii : (x : ℕ) (xs : List ℕ) → x < 128 → IsUtf8 xs → IsUtf8 (x ∷ xs)
 after_ascii x xs small u =
-    let first : IsUtf8 (x ∷ []) = subst IsUtf8 (encode_ascii x small) (IsUtf8-encode x (low_scalar x (omega arith))) in
+    let scalar = IsUtf8-encode x (low_scalar x (omega arith)) in
+    let first : IsUtf8 (x ∷ []) = subst IsUtf8 (encode_ascii x small) scalar in
     IsUtf8-append (x ∷ []) xs first u
 
 either_utf8 : (b : Bool) (xs ys : List ℕ) → IsUtf8 xs → IsUtf8 ys → IsUtf8 (cond b xs ys)

@@ -14,7 +14,7 @@ use Rattle.gx_rows.specs.declared.row_key.RowKey.{RowKey}
 use Rattle.gx_rows.specs.declared.row_key.RowKey.TheVariants as row_key
 use Rattle.gx_syntax_tokens.specs.declared.syntax_kind.SyntaxKind.TheVariants as syntax_kind
 use Rattle.gx_types_exprs.specs.declared.type_kind.TypeKind.TheVariants as type_kind
-use Rattle.gx_print.specs.Messages.{cause_message, cell_message, limit_name, syntax_message, type_message}
+use Rattle.gx_print.specs.Wording.{cause_wording, cell_wording, limit_name, syntax_wording, type_wording}
 use Rattle.gx_print.specs.declared.status.ScriptStop.{ScriptStop}
 use Rattle.gx_print.specs.declared.status.ScriptStop.TheVariants as script_stop
 use Rattle.gx_print.specs.declared.status.Status.{Status}
@@ -25,12 +25,12 @@ unfoldable pub script_line : ScriptStop → List ℕ
 script_line (script_stop.NotUtf8 offset) =
     concat (codes "script: byte " ∷ decimal offset ∷ codes ": not UTF-8\n" ∷ [])
 script_line (script_stop.Syntax offset kind) =
-    concat (codes "script: byte " ∷ decimal offset ∷ codes ": " ∷ syntax_message kind ∷ codes "\n" ∷ [])
+    concat (codes "script: byte " ∷ decimal offset ∷ codes ": " ∷ syntax_wording kind ∷ codes "\n" ∷ [])
 script_line (script_stop.Typing statement None kind) =
-    concat (codes "script: statement " ∷ decimal statement ∷ codes ": " ∷ type_message kind ∷ codes "\n" ∷ [])
+    concat (codes "script: statement " ∷ decimal statement ∷ codes ": " ∷ type_wording kind ∷ codes "\n" ∷ [])
 script_line (script_stop.Typing statement (Some expr) kind) =
     concat (codes "script: statement " ∷ decimal statement ∷ codes ", expression " ∷ decimal expr
-    ∷ codes ": " ∷ type_message kind ∷ codes "\n" ∷ [])
+    ∷ codes ": " ∷ type_wording kind ∷ codes "\n" ∷ [])
 
 -- a refused data file: a column that its header lacks, a row, a cell, or a line of an edge list
 unfoldable pub data_line : List ℕ → List ℕ → RowStop → List ℕ
@@ -40,7 +40,7 @@ data_line file name (row_stop.Shape row) =
     concat (codes "data: " ∷ file ∷ codes ": row " ∷ decimal row ∷ codes ": shape\n" ∷ [])
 data_line file name (row_stop.Cell row column kind) =
     concat (codes "data: " ∷ file ∷ codes ": row " ∷ decimal row
-    ∷ codes ", column " ∷ name ∷ codes ": " ∷ cell_message kind ∷ codes "\n" ∷ [])
+    ∷ codes ", column " ∷ name ∷ codes ": " ∷ cell_wording kind ∷ codes "\n" ∷ [])
 data_line file name (row_stop.Line line) =
     concat (codes "data: " ∷ file ∷ codes ": line " ∷ decimal line ∷ codes ": not an edge\n" ∷ [])
 
@@ -59,7 +59,7 @@ key_text (row_key.Edge src dst row) =
 unfoldable pub fault_line : Fault → List ℕ
 fault_line fault =
     concat (codes "fault: statement " ∷ decimal fault.statement ∷ codes ", " ∷ key_text fault.key
-    ∷ codes ", expression " ∷ decimal fault.expr ∷ codes ": " ∷ cause_message fault.cause ∷ codes "\n" ∷ [])
+    ∷ codes ", expression " ∷ decimal fault.expr ∷ codes ": " ∷ cause_wording fault.cause ∷ codes "\n" ∷ [])
 
 -- a limit with its number
 unfoldable pub limit_line : LimitKind → List ℕ

@@ -9,12 +9,12 @@
 
 mod fields;
 mod lines;
-mod messages;
 mod rows;
 mod status;
 mod status_lines;
 #[cfg(test)]
 mod tests;
+mod wording;
 
 pub use gx_load::{CellKind, RowStop};
 pub use gx_rows::{Cause, Fault, LimitKind, RowKey};

@@ -14,8 +14,8 @@ ghost use Rattle.gx_print.specs.StatusLines.{
 };
 ghost use Rattle.gx_print.specs.declared.status.ScriptStop.TheVariants as script_stop;
 
-use crate::messages::{cause_message, cell_message, limit_name, syntax_message, type_message};
 use crate::status::{DataStop, ScriptStop, Status};
+use crate::wording::{cause_wording, cell_wording, limit_name, syntax_wording, type_wording};
 use gx_load::RowStop;
 use gx_rows::{Fault, LimitKind, NoMemory, RowKey, Text, Vid};
 use gx_types_exprs::TypeKind;
@@ -62,12 +62,12 @@ fn script_line(alloc: Global, stop: ScriptStop) -> Result<String, NoMemory>
             Ok(format!(in alloc; "script: byte {offset}: not UTF-8\n")?)
         }
         ScriptStop::Syntax(offset, kind) => {
-            let message = syntax_message(kind);
-            Ok(format!(in alloc; "script: byte {offset}: {message}\n")?)
+            let wording = syntax_wording(kind);
+            Ok(format!(in alloc; "script: byte {offset}: {wording}\n")?)
         }
         ScriptStop::Typing(statement, None, kind) => {
-            let message = type_message(kind);
-            Ok(format!(in alloc; "script: statement {statement}: {message}\n")?)
+            let wording = type_wording(kind);
+            Ok(format!(in alloc; "script: statement {statement}: {wording}\n")?)
         }
         ScriptStop::Typing(statement, Some(expr), kind) => {
             expression_line(alloc, statement, expr, kind)
@@ -86,8 +86,8 @@ fn expression_line(
     ensures { IfOk result (λ line. string_bytes line
         ≡ script_line (script_stop.Typing statement (Some expr) kind)) }
 {
-    let message = type_message(kind);
-    Ok(format!(in alloc; "script: statement {statement}, expression {expr}: {message}\n")?)
+    let wording = type_wording(kind);
+    Ok(format!(in alloc; "script: statement {statement}, expression {expr}: {wording}\n")?)
 }
 
 // The line of a refused data file.
@@ -102,8 +102,8 @@ fn data_line(alloc: Global, refusal: &DataStop) -> Result<String, NoMemory>
         RowStop::Header(_) => Ok(format!(in alloc; "data: {file}: column {name} missing\n")?),
         RowStop::Shape(row) => Ok(format!(in alloc; "data: {file}: row {row}: shape\n")?),
         RowStop::Cell { row, kind, .. } => {
-            let message = cell_message(kind);
-            Ok(format!(in alloc; "data: {file}: row {row}, column {name}: {message}\n")?)
+            let wording = cell_wording(kind);
+            Ok(format!(in alloc; "data: {file}: row {row}, column {name}: {wording}\n")?)
         }
         RowStop::Line(line) => Ok(format!(in alloc; "data: {file}: line {line}: not an edge\n")?),
     }
@@ -126,7 +126,7 @@ fn fault_line(alloc: Global, fault: &Fault) -> Result<String, NoMemory>
 {
     let statement = fault.statement;
     let expr = fault.expr;
-    let cause = cause_message(fault.cause);
+    let cause = cause_wording(fault.cause);
     let key = key_text(alloc, &fault.key)?;
     Ok(format!(in alloc; "fault: statement {statement}, {key}, expression {expr}: {cause}\n")?)
 }

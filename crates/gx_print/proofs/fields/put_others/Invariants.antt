@@ -7,4 +7,5 @@ use Rattle.gx_print.proofs.fields.put_others.Given as goal
 -- the identifiers so far are in the field
 abbrev pub invariant-loop-id : goal.invariant-loop-id
 invariant-loop-id l =
-    string_bytes l.field ≡ string_bytes l.fn.field ++ flat_map (λ id. 32 ∷ signed_decimal id) (take l.id-index l.ids)
+    string_bytes l.field
+    ≡ string_bytes l.fn.field ++ flat_map (λ id. 32 ∷ signed_decimal id) (take l.id-index l.ids)

@@ -1,14 +1,14 @@
 //! The words for each cause of a refusal, and for each limit.
 //!
-//! A cause that is added to one of these types gets its words here and in specs/Messages.antt.
+//! A cause that is added to one of these types gets its words here and in specs/Wording.antt.
 
 ghost use Rattle.std.specs.Prelude.{◌≡◌};
-ghost use Rattle.gx_print.specs.Messages.{
-  cause_message,
-  cell_message,
+ghost use Rattle.gx_print.specs.Wording.{
+  cause_wording,
+  cell_wording,
   limit_name,
-  syntax_message,
-  type_message,
+  syntax_wording,
+  type_wording,
 };
 
 use gx_load::CellKind;
@@ -17,8 +17,8 @@ use gx_syntax_tokens::SyntaxKind;
 use gx_types_exprs::TypeKind;
 
 /// Why a script is refused at an offset.
-pub(crate) fn syntax_message(kind: SyntaxKind) -> &'static str
-    ensures { result.now ≡ syntax_message kind }
+pub(crate) fn syntax_wording(kind: SyntaxKind) -> &'static str
+    ensures { result.now ≡ syntax_wording kind }
 {
     match kind {
         SyntaxKind::NotToken => "not a token",
@@ -31,8 +31,8 @@ pub(crate) fn syntax_message(kind: SyntaxKind) -> &'static str
 }
 
 /// Why a statement is not well typed.
-pub(crate) fn type_message(kind: TypeKind) -> &'static str
-    ensures { result.now ≡ type_message kind }
+pub(crate) fn type_wording(kind: TypeKind) -> &'static str
+    ensures { result.now ≡ type_wording kind }
 {
     match kind {
         TypeKind::NameTaken => "name taken",
@@ -52,8 +52,8 @@ pub(crate) fn type_message(kind: TypeKind) -> &'static str
 }
 
 /// Why a cell is refused.
-pub(crate) fn cell_message(kind: CellKind) -> &'static str
-    ensures { result.now ≡ cell_message kind }
+pub(crate) fn cell_wording(kind: CellKind) -> &'static str
+    ensures { result.now ≡ cell_wording kind }
 {
     match kind {
         CellKind::NotInt => "not an int",
@@ -66,8 +66,8 @@ pub(crate) fn cell_message(kind: CellKind) -> &'static str
 }
 
 /// Why an expression or a merge has no value.
-pub(crate) fn cause_message(cause: Cause) -> &'static str
-    ensures { result.now ≡ cause_message cause }
+pub(crate) fn cause_wording(cause: Cause) -> &'static str
+    ensures { result.now ≡ cause_wording cause }
 {
     match cause {
         Cause::Overflow => "overflow",
