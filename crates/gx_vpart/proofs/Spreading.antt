@@ -6,18 +6,8 @@ use Rattle.std.proofs.lemmas.List.Sorted.{length_permutation}
 use Rattle.gx_rows.specs.declared.vid.Vid.{Vid}
 use Rattle.gx_index.specs.Ids.{HasDistinctIds, HasDistinctIds-IsPermutation, IsAscending-from_sorted}
 use Rattle.gx_vpart.specs.Operators.{picked, with_rows}
+use Rattle.gx_vpart.proofs.Chunks.{drop-past, drop-slot}
 use Rattle.gx_vpart.specs.Slots.{AreSortedColumns, HasSlots, item_for, items_after, masked_rows, spread_items, thinned_mask}
-
-drop-slot : {A : Type 0} (xs : List A) (i : ℕ) (x : A) → slice_get xs i ≡ Some x → drop i xs ≡ x ∷ drop (i + 1) xs
-drop-slot [] i x at = cc
-drop-slot (y ∷ xs) zero x at = cc
-drop-slot (y ∷ xs) (suc i) x at = let same : suc i + 1 ≡ suc (i + 1) = omega arith in rw same (drop-slot xs i x at)
-
-drop-past : {A : Type 0} (xs : List A) (i : ℕ) → length xs ≤ i → drop i xs ≡ []
-drop-past [] zero past = refl
-drop-past [] (suc i) past = refl
-drop-past (x ∷ xs) zero past = absurd (omega arith)
-drop-past (x ∷ xs) (suc i) past = drop-past xs i (omega arith)
 
 -- the items of the first slots are made
 pub record SpreadSoFar {A : Type 0} (blank : A) (mask : List Bool) (items : List A) (slot : ℕ) (made rest : List A) : Type 0 where
