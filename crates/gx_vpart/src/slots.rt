@@ -1,16 +1,13 @@
 //! From items in a row to slots under a mask.
 
 ghost use Rattle.std.specs.Prelude.{◌≡◌, ◌<◌, ◌++◌, ◌∷◌, IfOk, OnOk, Some, true, false, length, slice_get, slice_set, [], List};
-ghost use Rattle.std.specs.Vec.Iter.{into_iter_items};
 ghost use Rattle.gx_rows.specs.declared.value.Value.{Value as Cell};
 ghost use Rattle.gx_vpart.specs.Slots.{IsSpreadUpTo, item_for, items_after, spread_items, thinned_mask};
 
-use crate::rows::Rows;
 use crate::rows_builder::RowsBuilder;
 use gx_mask::Mask;
 use gx_rows::{NoMemory, Row};
 use std::alloc::Global;
-use std::vec::IntoIter;
 
 /// The mask without those of its slots at which the bools, one for each, are false.
 pub fn thin(alloc: Global, mask: &Mask, bools: &[bool]) -> Result<Mask, NoMemory>
@@ -105,33 +102,9 @@ pub fn push_rest(
     Ok(())
 }
 
-fn empty_row(alloc: Global) -> Row
+/// A row with no value, for a slot that does not count.
+pub fn empty_row(alloc: Global) -> Row
     ensures { result ≡ [] }
 {
     Row::of(Vec::new(alloc))
-}
-
-/// The rows at the slots that the mask has, in order, and an empty row at each other slot.
-pub fn spread(alloc: Global, mask: &Mask, rows: Vec<Row>) -> Result<Rows, NoMemory>
-    ensures { IfOk result (λ r. r ≡ spread_items {A = List Cell} [] mask.now rows.items) }
-{
-    let mut builder = RowsBuilder::with_capacity(alloc, mask.len() as usize)?;
-    let mut rest = rows.into_iter();
-    for slot in 0..mask.len() {
-        builder.push(next_row(alloc, mask.test(slot), &mut rest))?;
-    }
-    builder.finish()
-}
-
-fn next_row(alloc: Global, there: bool, rest: &mut IntoIter<Row>) -> Row
-    ensures item { result ≡ item_for {A = List Cell} [] there (into_iter_items rest.old) }
-    ensures after { into_iter_items rest.new ≡ items_after there (into_iter_items rest.old) }
-{
-    if !there {
-        return empty_row(alloc);
-    }
-    match rest.next() {
-        Some(row) => row,
-        None => empty_row(alloc),
-    }
 }

@@ -11,7 +11,7 @@ ghost use Rattle.gx_vpart.specs.Slots.{HasSlots, masked_rows};
 
 use crate::columns::columns;
 use crate::rows::Rows;
-use crate::slots::{spread, thin};
+use crate::slots::thin;
 use crate::traverse::{map_rows, traverse_rows};
 use crate::vrows::VRows;
 use gx_index::Index;
@@ -143,20 +143,6 @@ impl VPart {
             rows: Rc::new(alloc, rows)?,
             mask: mask.clone()?,
             alloc,
-        })
-    }
-
-    // The same vertices with these rows, one for each.
-    pub(crate) fn with_rows(&self, rows: Vec<Row>) -> Result<VPart, NoMemory>
-        requires { length rows.items ≡ length self.now }
-        ensures { IfOk result (λ new. new ≡ with_rows self.now rows.items) }
-    {
-        let rows = spread(self.alloc, self.mask.as_ref(), rows)?;
-        Ok(VPart {
-            index: self.index.clone()?,
-            rows: Rc::new(self.alloc, rows)?,
-            mask: self.mask.clone()?,
-            alloc: self.alloc,
         })
     }
 
