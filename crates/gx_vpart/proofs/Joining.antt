@@ -106,9 +106,6 @@ picked-partners {S = S} (x ∷ xs) ys = by (row_at x.0 ys) (picked-partners xs y
     by None more = more
     by (Some s) more = ap (λ ids. x.0 ∷ ids) more
 
-pub length-picked_partners : {R S : Type 0} (xs : List (Vid × R)) (ys : List (Vid × S)) → length (picked xs (map has_partner (left_join xs ys))) ≡ length (inner_join xs ys)
-length-picked_partners xs ys = sym (length-map _ _) ∙ ap length (picked-partners xs ys) ∙ length-map _ _
-
 -- what holds of each item holds of one that is found in the list
 pub All-at : {A : Type 0} (P : A → Type 0) (xs front : List A) (x : A) (rest : List A) → All P xs → xs ≡ front ++ x ∷ rest → P x
 All-at P xs front x rest all split =
