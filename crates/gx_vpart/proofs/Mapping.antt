@@ -1,11 +1,10 @@
 -- Rows that a closure returns, at the slots of a mask.
-use Rattle.std.proofs.Common.{◌≡◌, ℕ, Bool, List, [], ◌∷◌, ◌++◌, Result, Ok, Err, length, ◌∙◌, ap}
-use Rattle.std.specs.List.{AllZip}
+use Rattle.std.proofs.Common.{◌≡◌, ℕ, Bool, List, [], ◌∷◌, ◌++◌, Result, Ok, length, ◌∙◌, ap}
 use Rattle.std.proofs.lemmas.Slice.Zip.{AllZip-long}
 use Rattle.gx_rows.specs.declared.eval_stop.EvalStop.{EvalStop}
 use Rattle.gx_rows.specs.declared.row_key.RowKey.{RowKey}
 use Rattle.gx_rows.specs.declared.vid.Vid.{Vid}
-use Rattle.gx_traverse.specs.Steps.{SoFar, SoFar-done, SoFar-more, SoFar-start, SoFar-stop, stopped_at}
+use Rattle.gx_traverse.specs.Steps.{SoFar, SoFar-done, SoFar-more, SoFar-start}
 use Rattle.gx_traverse.specs.Traversal.{IsTraversal}
 use Rattle.gx_vpart.specs.Operators.{with_rows}
 use Rattle.gx_vpart.specs.Slots.{HasSlots, IsSpreadUpTo, masked_rows, spread_items}

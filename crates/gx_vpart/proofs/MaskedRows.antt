@@ -4,12 +4,11 @@ use Rattle.std.specs.List.{AllByRecursion, position_from}
 use Rattle.std.specs.List.Sorted.{IsStrictlySortedBy}
 use Rattle.std.specs.Map.{keys_of}
 use Rattle.std.specs.declared.cmp.Ordering.TheVariants.{Less}
-use Rattle.std.specs.Cmp.{Equal-is}
 use Rattle.std.proofs.lemmas.Cmp.{eq_by_cmp_equiv}
 use Rattle.std.proofs.lemmas.List.{drop-drop}
 use Rattle.std.proofs.lemmas.Map.Keys.{IsDistinct-head, IsDistinct-tail}
 use Rattle.gx_rows.specs.declared.vid.Vid.{Vid}
-use Rattle.gx_index.specs.Ids.{HasDistinctIds, IsAscending, id_cmp, id_cmp-exact, id_cmp-total, is_same_id}
+use Rattle.gx_index.specs.Ids.{HasDistinctIds, IsAscending, id_cmp, id_cmp-total, is_same_id}
 use Rattle.gx_vpart.proofs.Chunks.{drop-slot}
 use Rattle.gx_vpart.specs.Operators.{row_at}
 use Rattle.gx_vpart.specs.Slots.{masked_rows}

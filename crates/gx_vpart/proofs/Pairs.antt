@@ -2,7 +2,6 @@
 use Rattle.std.proofs.Common.{◌≡◌, ℕ, Bool, true, false, List, [], ◌∷◌, ◌++◌, Option, Some, None, Result, Ok, Err, map, All, length, zip, refl, sym, ap, ◌∙◌, Vec, append_assoc, arith, length-append}
 use Rattle.std.specs.Global.{Global}
 use Rattle.std.specs.List.{AllZip, filter_map}
-use Rattle.std.specs.Map.{keys_of}
 use Rattle.std.specs.Prelude.{IfOk}
 use Rattle.std.proofs.lemmas.List.{append-nil, length-map}
 use Rattle.gx_rows.specs.declared.eval_stop.EvalStop.{EvalStop}

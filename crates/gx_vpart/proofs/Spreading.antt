@@ -1,5 +1,5 @@
 -- Items spread over the slots of a mask.
-use Rattle.std.proofs.Common.{◌≡◌, ℕ, zero, suc, ◌+◌, ◌-◌, ◌<◌, ◌≤◌, Bool, true, false, cond, List, [], ◌∷◌, ◌++◌, Option, Some, None, length, drop, map, replicate, slice_get, set, refl, sym, ap, ◌∙◌, arith, append_assoc, length-append, length-drop, zip, ◌^◌, Result, Ok, Err, IfOk}
+use Rattle.std.proofs.Common.{◌≡◌, ℕ, zero, suc, ◌+◌, ◌-◌, ◌<◌, ◌≤◌, Bool, true, false, List, [], ◌∷◌, ◌++◌, Some, length, drop, replicate, slice_get, set, refl, sym, ap, ◌∙◌, arith, append_assoc, length-append, ◌^◌, Result, Ok, Err, IfOk}
 use Rattle.std.specs.Map.{keys_of, values_of}
 use Rattle.std.proofs.lemmas.List.{append-nil, length-map, length-replicate}
 use Rattle.std.proofs.lemmas.List.Sorted.{length_permutation}

@@ -1,5 +1,5 @@
 -- Slots: rows by slot, and a mask that says which of them count.
-use Rattle.std.specs.Prelude.{◌≡◌, ℕ, pos, ◌<◌, ◌^◌, Bool, true, false, cond, List, [], ◌∷◌, ◌++◌, drop, length, IsPermutation, IsSortedByKey, refl}
+use Rattle.std.specs.Prelude.{◌≡◌, ℕ, pos, ◌<◌, ◌^◌, Bool, true, false, List, [], ◌∷◌, ◌++◌, drop, length, IsPermutation, IsSortedByKey, refl}
 use Rattle.std.specs.Map.{keys_of, values_of}
 use Rattle.gx_rows.specs.declared.vid.Vid.{Vid}
 use Rattle.gx_index.specs.Ids.{IsAscending, id_cmp}

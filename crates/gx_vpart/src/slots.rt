@@ -58,24 +58,6 @@ pub fn push_masked(
     ensures { (rows : List (List Cell)) → IsSpreadUpTo [] mask.now rows slot builder.old
         → IfOk result (λ next. IsSpreadUpTo [] mask.now (rows ++ row ∷ []) next builder.new) }
 {
-    if slot < mask.len() && mask.test(slot) {
-        builder.push(row)?;
-        return Ok(slot + 1);
-    }
-    push_after_gap(alloc, builder, mask, slot, row)
-}
-
-// The same, apart from the common case so that this one is short.
-fn push_after_gap(
-    alloc: Global,
-    builder: &mut RowsBuilder,
-    mask: &Mask,
-    slot: u32,
-    row: Row,
-) -> Result<u32, NoMemory>
-    ensures { (rows : List (List Cell)) → IsSpreadUpTo [] mask.now rows slot builder.old
-        → IfOk result (λ next. IsSpreadUpTo [] mask.now (rows ++ row ∷ []) next builder.new) }
-{
     let next = skip_unmasked(alloc, builder, mask, slot)?;
     if next < mask.len() {
         builder.push(row)?;

@@ -1,4 +1,4 @@
-use Rattle.std.proofs.Common.{◌≡◌, ◌∙◌, ◌∷◌, ◌++◌, map, [], Some, None, refl, rules, true, false, is_some}
+use Rattle.std.proofs.Common.{◌≡◌, ◌∙◌, [], Some, None, refl, rules, true, false}
 use Rattle.std.specs.List.{filter_map}
 use Rattle.std.specs.Option.{option_copied}
 use Rattle.gx_vpart.specs.JoinCalls.{MayCallAtPair}

@@ -1,4 +1,4 @@
-use Rattle.std.proofs.Common.{◌≡◌, ◌<◌, ◌%◌, ◌∙◌, None, sym, arith, refl}
+use Rattle.std.proofs.Common.{◌<◌, ◌%◌, arith, refl}
 use Rattle.std.proofs.lemmas.Option.{slice_get-map}
 use Rattle.gx_vpart.proofs.Chunks.{IsPieceAt-chunks, IsPieceAt-past, nonempty-chunk, slice_get-chunks, slice_get-none}
 use Rattle.gx_vpart.proofs.rows.Rows.chunk_from.Goals as goal

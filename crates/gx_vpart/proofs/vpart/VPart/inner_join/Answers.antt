@@ -1,5 +1,4 @@
 use Rattle.gx_vpart.proofs.Pairs.{HasSlots-pairs, joined-pairs}
-use Rattle.std.proofs.Common.{◌≡◌}
 use Rattle.gx_vpart.proofs.vpart.VPart.inner_join.Goals as goal
 
 pub map_pairs-requires : goal.map_pairs-requires

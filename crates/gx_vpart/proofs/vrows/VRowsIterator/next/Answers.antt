@@ -1,4 +1,4 @@
-use Rattle.std.proofs.Common.{◌<◌, ◌≡◌, drop, length, sym, ◌∙◌, arith, refl, rules}
+use Rattle.std.proofs.Common.{◌<◌, drop, length, sym, ◌∙◌, arith}
 use Rattle.std.proofs.lemmas.Option.{slice_get-get_or}
 use Rattle.gx_vpart.proofs.Chunks.{IsPieceAt-rest, slice_get-piece}
 use Rattle.gx_vpart.proofs.Progress.{MakesProgress-first}
