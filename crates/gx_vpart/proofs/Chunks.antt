@@ -1,14 +1,14 @@
 -- A list in chunks: how to find an item, and what one more item or chunk makes of it.
-use Rattle.std.proofs.Common.{◌≡◌, ℕ, zero, suc, ◌+◌, ◌-◌, ◌/◌, ◌%◌, ◌<◌, ◌≤◌, List, [], ◌∷◌, ◌++◌, Option, Some, None, length, map, slice_get, refl, sym, ap, ◌∙◌, inl, inr, arith, append_assoc, length-append, add-one}
+use Rattle.std.proofs.Common.{◌≡◌, ℕ, zero, suc, ◌+◌, ◌-◌, ◌/◌, ◌%◌, ◌<◌, ◌≤◌, List, [], ◌∷◌, ◌++◌, Option, Some, None, drop, length, slice_get, refl, sym, ap, ◌∙◌, inl, inr, arith, append_assoc, length-drop, add-one}
 use Rattle.std.specs.Global.{Global}
 use Rattle.std.specs.List.{AllByRecursion}
 use Rattle.std.specs.declared.rc.Rc.{Rc}
 use Rattle.std.specs.Prelude.{Vec}
 use Rattle.std.proofs.Math.Nat.{div-eq_of_lt, div-eq-sub-div, mod-eq_of_lt, mod-eq-sub-mod}
 use Rattle.std.proofs.lemmas.Bool.{cases_lt}
-use Rattle.std.proofs.lemmas.List.{append-nil, map-append}
+use Rattle.std.proofs.lemmas.List.{append-nil, drop-append-le, drop-drop, map-append}
 use Rattle.std.proofs.lemmas.Option.{slice_get_past}
-use Rattle.gx_vpart.specs.Chunks.{HasChunksOf, HasFullChunks, items_of_chunks, shared_chunks}
+use Rattle.gx_vpart.specs.Chunks.{HasChunksOf, HasFullChunks, IsPieceAt, items_of_chunks, shared_chunks}
 
 slice_get-left : {A : Type 0} (xs ys : List A) (i : ℕ) → i < length xs → slice_get (xs ++ ys) i ≡ slice_get xs i
 slice_get-left [] ys i within = absurd (omega arith)
@@ -48,6 +48,81 @@ slice_get-chunks size (c ∷ d ∷ cs) i some even =
           ∙ ap (λ n. slice_get (items_of_chunks (d ∷ cs)) (i - n)) even.0
           ∙ slice_get-chunks size (d ∷ cs) (i - size) some even.1)
     ]
+
+drop-right : {A : Type 0} (xs ys : List A) (i : ℕ) → length xs ≤ i → drop i (xs ++ ys) ≡ drop (i - length xs) ys
+drop-right [] ys i from = let same : i - 0 ≡ i = omega arith in rw same refl
+drop-right (x ∷ xs) ys zero from = absurd (omega arith)
+drop-right (x ∷ xs) ys (suc i) from = let same : suc i - suc (length xs) ≡ i - length xs = omega arith in rw same (drop-right xs ys i (omega arith))
+
+-- the rest of a chunk is items of the list
+pub IsPieceAt-chunks : {A : Type 0} (size : ℕ) (cs : List (List A)) (i : ℕ) (c : List A) → 0 < size → HasChunksOf size cs → slice_get cs (i / size) ≡ Some c
+    → IsPieceAt i (drop (i % size) c) (items_of_chunks cs)
+IsPieceAt-chunks size [] i c some even at = cc
+IsPieceAt-chunks size (d ∷ []) i c some even at =
+    elim (cases_lt i size) [
+      | inl below ↦
+          let first : Some d ≡ Some c = rw (div-eq_of_lt below) at at in
+          let same : d ≡ c = cc in
+          record { rest = []; split = rw (mod-eq_of_lt below) (ap (drop i) (append-nil d ∙ same) ∙ sym (append-nil (drop i c))) }
+      | inr from ↦ let none : None ≡ Some c = rw (div-eq-sub-div some from, add-one) at at in cc
+    ]
+IsPieceAt-chunks size (d ∷ e ∷ cs) i c some even at =
+    elim (cases_lt i size) [
+      | inl below ↦
+          let first : Some d ≡ Some c = rw (div-eq_of_lt below) at at in
+          let same : d ≡ c = cc in
+          let within : i ≤ length d = omega (arith, even.0) in
+          record { rest = items_of_chunks (e ∷ cs); split = rw (mod-eq_of_lt below) (drop-append-le i d (items_of_chunks (e ∷ cs)) within ∙ ap (λ xs. drop i xs ++ items_of_chunks (e ∷ cs)) same) }
+      | inr from ↦
+          let later : slice_get (e ∷ cs) ((i - size) / size) ≡ Some c = rw (div-eq-sub-div some from, add-one) at at in
+          let past : length d ≤ i = omega (arith, even.0) in
+          let more = IsPieceAt-chunks size (e ∷ cs) (i - size) c some even.1 later in
+          record { rest = more.rest; split = rw (mod-eq-sub-mod from) (drop-right d (items_of_chunks (e ∷ cs)) i past ∙ ap (λ n. drop (i - n) (items_of_chunks (e ∷ cs))) even.0 ∙ more.split) }
+    ]
+
+pub slice_get-none : {A : Type 0} (xs : List A) (i : ℕ) → slice_get xs i ≡ None → length xs ≤ i
+slice_get-none [] i none = omega arith
+slice_get-none (x ∷ xs) zero none = cc
+slice_get-none (x ∷ xs) (suc i) none = omega (arith, slice_get-none xs i none)
+
+pub drop-slot : {A : Type 0} (xs : List A) (i : ℕ) (x : A) → slice_get xs i ≡ Some x → drop i xs ≡ x ∷ drop (i + 1) xs
+drop-slot [] i x at = cc
+drop-slot (y ∷ xs) zero x at = cc
+drop-slot (y ∷ xs) (suc i) x at = let same : suc i + 1 ≡ suc (i + 1) = omega arith in rw same (drop-slot xs i x at)
+
+pub drop-past : {A : Type 0} (xs : List A) (i : ℕ) → length xs ≤ i → drop i xs ≡ []
+drop-past [] zero past = refl
+drop-past [] (suc i) past = refl
+drop-past (x ∷ xs) zero past = absurd (omega arith)
+drop-past (x ∷ xs) (suc i) past = drop-past xs i (omega arith)
+
+-- no item is a piece anywhere past the end
+pub IsPieceAt-past : {A : Type 0} (xs : List A) (i : ℕ) → slice_get xs i ≡ None → IsPieceAt i [] xs
+IsPieceAt-past xs i none = record { rest = []; split = drop-past xs i (slice_get-none xs i none) }
+
+-- if an item of the list is in the chunk, the rest of the chunk begins with it
+pub nonempty-chunk : {A : Type 0} (xs c : List A) (i k : ℕ) → slice_get xs i ≡ slice_get c k → i < length xs → 0 < length (drop k c)
+nonempty-chunk xs c i k same within =
+    elim (cases_lt k (length c)) [
+      | inl below ↦ omega (arith, length-drop k c)
+      | inr from ↦ absurd (omega (arith, slice_get-none xs i (same ∙ slice_get_past c k from)))
+    ]
+
+pub IsPieceAt-start : {A : Type 0} (xs : List A) → IsPieceAt 0 [] xs
+IsPieceAt-start xs = record { rest = xs; split = refl }
+
+-- the first item of a piece, and the items after it
+pub slice_get-piece : {A : Type 0} (xs : List A) (i : ℕ) (x : A) (piece : List A) → IsPieceAt i (x ∷ piece) xs → slice_get xs i ≡ Some x
+slice_get-piece xs i x piece at = first xs i at.split
+  where
+    first : {A : Type 0} {x : A} {rest : List A} (xs : List A) (i : ℕ) → drop i xs ≡ x ∷ rest → slice_get xs i ≡ Some x
+    first [] zero split = cc
+    first [] (suc i) split = cc
+    first (y ∷ ys) zero split = cc
+    first (y ∷ ys) (suc i) split = first ys i split
+
+pub IsPieceAt-rest : {A : Type 0} (xs : List A) (i : ℕ) (x : A) (piece : List A) → IsPieceAt i (x ∷ piece) xs → IsPieceAt (i + 1) piece xs
+IsPieceAt-rest xs i x piece at = record { rest = at.rest; split = sym (drop-drop 1 i xs) ∙ ap (drop 1) at.split }
 
 items_of_chunks-append : {A : Type 0} (cs ds : List (List A)) → items_of_chunks (cs ++ ds) ≡ items_of_chunks cs ++ items_of_chunks ds
 items_of_chunks-append [] ds = refl

@@ -1,14 +1,12 @@
 -- A walk over two ascending lists finds what look-ups find.
-use Rattle.std.proofs.Common.{◌≡◌, Bool, true, false, cond, List, [], ◌∷◌, Option, Some, None, map, refl, sym, ap, ◌∙◌, All, ◌++◌, length, get_or, arith, subst, length-append}
+use Rattle.std.proofs.Common.{◌≡◌, Bool, true, false, cond, List, [], ◌∷◌, Option, Some, None, map, refl, sym, ap, ◌∙◌, All, ◌++◌, length, arith, subst, length-append}
 use Rattle.std.specs.List.{AllByRecursion, filter, filter_map}
-use Rattle.std.specs.List.Sorted.{IsStrictlySortedBy}
 use Rattle.std.specs.Map.{keys_of}
 use Rattle.std.specs.Ordering.{is_eq, is_lt, ordering_reverse}
 use Rattle.std.specs.declared.cmp.Ordering.{Ordering}
 use Rattle.std.specs.declared.cmp.Ordering.TheVariants.{Less, Equal, Greater}
 use Rattle.std.proofs.lemmas.Cmp.{tied_back}
 use Rattle.std.proofs.Math.Seq.{get_or-append_seam}
-use Rattle.std.proofs.lemmas.List.{length-map}
 use Rattle.std.proofs.lemmas.Map.{lookup-none}
 use Rattle.std.proofs.lemmas.Map.Entries.{none_below_head}
 use Rattle.std.proofs.lemmas.Map.Keys.{sorted_head, sorted_tail}
@@ -105,9 +103,6 @@ picked-partners {S = S} (x ∷ xs) ys = by (row_at x.0 ys) (picked-partners xs y
         → keys_of (picked (x ∷ xs) (map has_partner ((x.0, x.1, other) ∷ left_join xs ys))) ≡ ids_of_join (filter_map with_partner ((x.0, x.1, other) ∷ left_join xs ys))
     by None more = more
     by (Some s) more = ap (λ ids. x.0 ∷ ids) more
-
-pub length-picked_partners : {R S : Type 0} (xs : List (Vid × R)) (ys : List (Vid × S)) → length (picked xs (map has_partner (left_join xs ys))) ≡ length (inner_join xs ys)
-length-picked_partners xs ys = sym (length-map _ _) ∙ ap length (picked-partners xs ys) ∙ length-map _ _
 
 -- what holds of each item holds of one that is found in the list
 pub All-at : {A : Type 0} (P : A → Type 0) (xs front : List A) (x : A) (rest : List A) → All P xs → xs ≡ front ++ x ∷ rest → P x

@@ -4,12 +4,12 @@ use Rattle.std.specs.List.{AllByRecursion, position_from}
 use Rattle.std.specs.List.Sorted.{IsStrictlySortedBy}
 use Rattle.std.specs.Map.{keys_of}
 use Rattle.std.specs.declared.cmp.Ordering.TheVariants.{Less}
-use Rattle.std.specs.Cmp.{Equal-is}
 use Rattle.std.proofs.lemmas.Cmp.{eq_by_cmp_equiv}
 use Rattle.std.proofs.lemmas.List.{drop-drop}
 use Rattle.std.proofs.lemmas.Map.Keys.{IsDistinct-head, IsDistinct-tail}
 use Rattle.gx_rows.specs.declared.vid.Vid.{Vid}
-use Rattle.gx_index.specs.Ids.{HasDistinctIds, IsAscending, id_cmp, id_cmp-exact, id_cmp-total, is_same_id}
+use Rattle.gx_index.specs.Ids.{HasDistinctIds, IsAscending, id_cmp, id_cmp-total, is_same_id}
+use Rattle.gx_vpart.proofs.Chunks.{drop-slot}
 use Rattle.gx_vpart.specs.Operators.{row_at}
 use Rattle.gx_vpart.specs.Slots.{masked_rows}
 
@@ -23,10 +23,9 @@ next-from n s (false ∷ mask) at = let more = next-from (n + 1) s mask at in (o
 pub next-within : (from s : ℕ) (mask : List Bool) → position_from (λ b. b) from (drop from mask) ≡ Some s → s < length mask
 next-within from s mask at = omega (arith, next-from from s (drop from mask) at, length-drop from mask)
 
-pub slice_get-none : {A : Type 0} (xs : List A) (i : ℕ) → slice_get xs i ≡ None → length xs ≤ i
-slice_get-none [] i none = omega arith
-slice_get-none (x ∷ xs) zero none = cc
-slice_get-none (x ∷ xs) (suc i) none = omega (arith, slice_get-none xs i none)
+-- the mask has this slot
+pub position-here : (mask : List Bool) (from : ℕ) → slice_get mask from ≡ Some true → Some from ≡ position_from (λ b. b) from (drop from mask)
+position-here mask from at = sym (ap (position_from (λ b. b) from) (drop-slot mask from true at))
 
 -- no slot is left
 pub masked_rows-none : {R : Type 0} (n : ℕ) (mask : List Bool) (ids : List Vid) (rows : List R) → position_from (λ b. b) n mask ≡ None → masked_rows mask ids rows ≡ []

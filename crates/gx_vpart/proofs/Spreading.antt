@@ -1,23 +1,13 @@
 -- Items spread over the slots of a mask.
-use Rattle.std.proofs.Common.{◌≡◌, ℕ, zero, suc, ◌+◌, ◌-◌, ◌<◌, ◌≤◌, Bool, true, false, cond, List, [], ◌∷◌, ◌++◌, Option, Some, None, length, drop, map, replicate, slice_get, set, refl, sym, ap, ◌∙◌, arith, append_assoc, length-append, length-drop, zip, ◌^◌, Result, Ok, Err, IfOk}
+use Rattle.std.proofs.Common.{◌≡◌, ℕ, zero, suc, ◌+◌, ◌-◌, ◌<◌, ◌≤◌, Bool, true, false, List, [], ◌∷◌, ◌++◌, Some, length, drop, replicate, slice_get, set, refl, sym, ap, ◌∙◌, arith, append_assoc, length-append, ◌^◌, Result, Ok, Err, IfOk}
 use Rattle.std.specs.Map.{keys_of, values_of}
 use Rattle.std.proofs.lemmas.List.{append-nil, length-map, length-replicate}
 use Rattle.std.proofs.lemmas.List.Sorted.{length_permutation}
 use Rattle.gx_rows.specs.declared.vid.Vid.{Vid}
 use Rattle.gx_index.specs.Ids.{HasDistinctIds, HasDistinctIds-IsPermutation, IsAscending-from_sorted}
 use Rattle.gx_vpart.specs.Operators.{picked, with_rows}
-use Rattle.gx_vpart.specs.Slots.{AreSortedColumns, HasSlots, item_for, items_after, masked_rows, spread_items, thinned_mask}
-
-drop-slot : {A : Type 0} (xs : List A) (i : ℕ) (x : A) → slice_get xs i ≡ Some x → drop i xs ≡ x ∷ drop (i + 1) xs
-drop-slot [] i x at = cc
-drop-slot (y ∷ xs) zero x at = cc
-drop-slot (y ∷ xs) (suc i) x at = let same : suc i + 1 ≡ suc (i + 1) = omega arith in rw same (drop-slot xs i x at)
-
-drop-past : {A : Type 0} (xs : List A) (i : ℕ) → length xs ≤ i → drop i xs ≡ []
-drop-past [] zero past = refl
-drop-past [] (suc i) past = refl
-drop-past (x ∷ xs) zero past = absurd (omega arith)
-drop-past (x ∷ xs) (suc i) past = drop-past xs i (omega arith)
+use Rattle.gx_vpart.proofs.Chunks.{drop-past, drop-slot}
+use Rattle.gx_vpart.specs.Slots.{AreSortedColumns, HasSlots, IsSpreadUpTo, item_for, items_after, masked_rows, spread_items, thinned_mask}
 
 -- the items of the first slots are made
 pub record SpreadSoFar {A : Type 0} (blank : A) (mask : List Bool) (items : List A) (slot : ℕ) (made rest : List A) : Type 0 where
@@ -31,6 +21,36 @@ SpreadSoFar-more {mask = mask} {slot = slot} there so_far at = record { whole = 
 pub SpreadSoFar-done : {A : Type 0} {blank : A} {mask : List Bool} {items : List A} {slot : ℕ} {made rest : List A}
     → SpreadSoFar blank mask items slot made rest → length mask ≤ slot → made ≡ spread_items blank mask items
 SpreadSoFar-done {mask = mask} {slot = slot} so_far past = rw (drop-past mask slot past, append-nil) at so_far.whole
+
+-- ---- rows that are made one after another
+
+pub IsSpreadUpTo-start : {A : Type 0} (blank : A) (mask : List Bool) → IsSpreadUpTo {A = A} blank mask [] 0 []
+IsSpreadUpTo-start blank mask = record { whole = λ more. refl }
+
+-- after a slot that the mask has not
+pub IsSpreadUpTo-blank : {A : Type 0} {blank : A} {mask : List Bool} {items : List A} {slot : ℕ} {made : List A}
+    → IsSpreadUpTo blank mask items slot made → slice_get mask slot ≡ Some false → IsSpreadUpTo blank mask items (slot + 1) (made ++ blank ∷ [])
+IsSpreadUpTo-blank {mask = mask} {slot = slot} so_far at = record { whole = λ more. rw append_assoc (rw (drop-slot mask slot false at) at (so_far.whole more)) }
+
+-- after a slot that the mask has
+pub IsSpreadUpTo-item : {A : Type 0} {blank : A} {mask : List Bool} {items : List A} {slot : ℕ} {made : List A} (x : A)
+    → IsSpreadUpTo blank mask items slot made → slice_get mask slot ≡ Some true → IsSpreadUpTo blank mask (items ++ x ∷ []) (slot + 1) (made ++ x ∷ [])
+IsSpreadUpTo-item {mask = mask} {slot = slot} x so_far at = record { whole = λ more. rw (append_assoc, append_assoc) (rw (drop-slot mask slot true at) at (so_far.whole (x ∷ more))) }
+
+-- no slot is left for one more item
+pub IsSpreadUpTo-past : {A : Type 0} {blank : A} {mask : List Bool} {items : List A} {slot : ℕ} {made : List A} (x : A)
+    → IsSpreadUpTo blank mask items slot made → length mask ≤ slot → IsSpreadUpTo blank mask (items ++ x ∷ []) slot made
+IsSpreadUpTo-past {mask = mask} {slot = slot} x so_far past = record { whole = λ more. rw (drop-past mask slot past, append_assoc) (rw (drop-past mask slot past) at (so_far.whole (x ∷ more))) }
+
+-- the slots that are left are blank
+pub IsSpreadUpTo-rest : {A : Type 0} {blank : A} {mask : List Bool} {items : List A} {slot : ℕ} {made : List A}
+    → IsSpreadUpTo blank mask items slot made → SpreadSoFar blank mask items slot made []
+IsSpreadUpTo-rest so_far = record { whole = rw append-nil at (so_far.whole []) }
+
+pub SpreadSoFar-blank : {A : Type 0} {blank : A} {mask : List Bool} {items : List A} {slot : ℕ} {made : List A} (there : Bool)
+    → SpreadSoFar blank mask items slot made [] → slice_get mask slot ≡ Some there → SpreadSoFar blank mask items (slot + 1) (made ++ blank ∷ []) []
+SpreadSoFar-blank true so_far at = SpreadSoFar-more true so_far at
+SpreadSoFar-blank false so_far at = SpreadSoFar-more false so_far at
 
 -- the bools of the first slots are made, and the others are false
 pub record ThinnedSoFar (mask bools : List Bool) (slot : ℕ) (thinned rest : List Bool) : Type 0 where

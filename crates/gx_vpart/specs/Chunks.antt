@@ -1,5 +1,5 @@
 -- A list that is cut into chunks of one size.
-use Rattle.std.specs.Prelude.{◌≡◌, ℕ, ◌≤◌, List, [], ◌∷◌, ◌++◌, length, map, ⊤, refl, Vec}
+use Rattle.std.specs.Prelude.{◌≡◌, ℕ, ◌≤◌, List, [], ◌∷◌, ◌++◌, drop, length, map, ⊤, refl, Vec}
 use Rattle.std.specs.Global.{Global}
 use Rattle.std.specs.List.{AllByRecursion}
 use Rattle.std.specs.declared.rc.Rc.{Rc}
@@ -23,6 +23,11 @@ pub record HasFullChunks {A : Type 0} (size : ℕ) (full : List (List A)) (last 
 -- the items of shared vectors
 abbrev pub shared_chunks : {A : Type 0} → List (Rc (Vec A Global) Global) → List (List A)
 shared_chunks chunks = map (λ c. c.value.items) chunks
+
+-- `piece` is the items from position i on, but for the last ones
+pub record IsPieceAt {A : Type 0} (i : ℕ) (piece items : List A) : Type 0 where
+  pub rest : List A
+  pub split : drop i items ≡ piece ++ rest
 
 items_of_chunks-example : items_of_chunks {A = ℕ} ((1 ∷ 2 ∷ []) ∷ (3 ∷ []) ∷ []) ≡ 1 ∷ 2 ∷ 3 ∷ []
 items_of_chunks-example = refl

@@ -1,5 +1,5 @@
 -- Calls of a closure at a row and the one beside it.
-use Rattle.std.specs.Prelude.{◌≡◌, List, Option, Result}
+use Rattle.std.specs.Prelude.{◌≡◌, Option, Result}
 use Rattle.std.specs.Option.{option_copied}
 use Rattle.gx_rows.specs.declared.eval_stop.EvalStop.{EvalStop}
 use Rattle.gx_rows.specs.declared.vid.Vid.{Vid}

@@ -1,5 +1,5 @@
 -- The operators of vertex partitions, on lists of identifiers with rows.
-use Rattle.std.specs.Prelude.{◌≡◌, ℕ, ℤ, pos, Bool, true, false, cond, not, ◌&&◌, List, [], ◌∷◌, map, filter, filter_map, zip, Option, Some, None, option_map, is_some, is_none, refl}
+use Rattle.std.specs.Prelude.{◌≡◌, ℕ, pos, Bool, true, false, cond, not, List, [], ◌∷◌, map, filter, filter_map, zip, Option, Some, None, option_map, is_some, is_none, refl}
 use Rattle.std.proofs.Common.{ap}
 use Rattle.std.specs.Map.{keys_of, lookup}
 use Rattle.std.specs.Ordering.{eq_by_cmp}

@@ -1,8 +1,9 @@
 -- Slots: rows by slot, and a mask that says which of them count.
-use Rattle.std.specs.Prelude.{◌≡◌, ℕ, pos, ◌<◌, ◌^◌, Bool, true, false, cond, List, [], ◌∷◌, length, IsPermutation, IsSortedByKey, refl}
+use Rattle.std.specs.Prelude.{◌≡◌, ℕ, pos, ◌<◌, ◌^◌, Bool, true, false, List, [], ◌∷◌, ◌++◌, drop, length, IsPermutation, IsSortedByKey, refl}
 use Rattle.std.specs.Map.{keys_of, values_of}
 use Rattle.gx_rows.specs.declared.vid.Vid.{Vid}
 use Rattle.gx_index.specs.Ids.{IsAscending, id_cmp}
+use Rattle.gx_vpart.specs.Operators.{picked}
 
 -- the identifiers and rows of the slots that the mask has
 abbrev pub masked_rows : {R : Type 0} → List Bool → List Vid → List R → List (Vid × R)
@@ -42,6 +43,17 @@ items_after true (x ∷ items) = items
 abbrev pub spread_items : {A : Type 0} → A → List Bool → List A → List A
 spread_items blank [] items = []
 spread_items blank (m ∷ mask) items = item_for blank m items ∷ spread_items blank mask (items_after m items)
+
+-- `made` has the items of the slots before `slot`; those of them that the mask has are `items`
+pub record IsSpreadUpTo {A : Type 0} (blank : A) (mask : List Bool) (items : List A) (slot : ℕ) (made : List A) : Type 0 where
+  pub whole : (more : List A) → made ++ spread_items blank (drop slot mask) more ≡ spread_items blank mask (items ++ more)
+
+-- items at the slots that the mask has, of which those at true bools are `some`
+pub record IsSpreadWithBools {A : Type 0} (blank : A) (mask bools : List Bool) (some made : List A) : Type 0 where
+  pub items : List A
+  pub spread : made ≡ spread_items blank mask items
+  pub one_bool_each : length items ≡ length bools
+  pub some_are : some ≡ picked items bools
 
 -- the mask without those of its slots at which the bools, one for each, are false
 abbrev pub thinned_mask : List Bool → List Bool → List Bool

@@ -10,6 +10,7 @@ ghost use Rattle.gx_index.specs.Ids.{IsAscending};
 ghost use Rattle.gx_vpart.specs.Joining.{rows_not_below};
 ghost use Rattle.gx_vpart.specs.Operators.{left_join, row_at};
 
+use crate::peekable_rows::PeekableRows;
 use crate::vrows::VRows;
 use gx_rows::{Row, Vid};
 use std::cmp::Ordering;
@@ -20,7 +21,7 @@ use std::marker::Model;
 #[derive(Drop)]
 pub struct Beside<'a> {
     left: VRows<'a>,
-    right: VRows<'a>,
+    right: PeekableRows<'a>,
 }
 
 impl<'a> Model for Beside<'a> {
@@ -45,6 +46,7 @@ impl<'a> Beside<'a> {
         requires right { IsAscending (keys_of right) }
         ensures { result ≡ left_join left.entry right.entry }
     {
+        let right = PeekableRows::of(right);
         Beside { left, right }
     }
 }
@@ -66,15 +68,14 @@ impl<'a> Iterator for Beside<'a> {
 }
 
 // The row of `v`, if any. The rows before it are passed over.
-fn partner<'a>(rows: &mut VRows<'a>, v: Vid) -> Option<&'a Row>
+fn partner<'a>(rows: &mut PeekableRows<'a>, v: Vid) -> Option<&'a Row>
     requires { IsAscending (keys_of rows.old) }
     ensures found { option_copied result ≡ row_at v rows.old }
     ensures rest { rows.new ≡ rows_not_below v rows.old }
 {
-    let mut rest = rows.again();
-    'below: while let Some((w, row)) = rest.next() {
+    'below: while let Some((w, row)) = rows.peek() {
         match w.cmp(&v) {
-            Ordering::Less => *rows = rest.again(),
+            Ordering::Less => rows.advance(),
             Ordering::Equal => return Some(row),
             Ordering::Greater => return None,
         }

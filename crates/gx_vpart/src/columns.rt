@@ -23,7 +23,7 @@ fn split(alloc: Global, rows: Vec<(Vid, Row)>) -> Result<(Vec<Vid>, Rows), NoMem
     ensures rows { IfOk result (λ c. c.1 ≡ values_of rows.items) }
 {
     let mut ids = Vec::with_capacity(alloc, rows.len())?;
-    let mut builder = RowsBuilder::new(alloc);
+    let mut builder = RowsBuilder::with_capacity(alloc, rows.len())?;
     for (v, row) in rows {
         ids.push(v)?;
         builder.push(row)?;

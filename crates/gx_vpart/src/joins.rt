@@ -7,7 +7,7 @@ ghost use Rattle.gx_vpart.specs.Operators.{diff, ids_of_join, inner_join, join_k
 
 use crate::VPart;
 use crate::beside::Beside;
-use crate::traverse::{changed, traverse_beside, traverse_pairs, without_partner};
+use crate::traverse::{changed, map_beside, map_pairs, without_partner};
 use gx_rows::{EvalStop, NoMemory, PartStop, Row, Vid};
 
 impl VPart {
@@ -28,9 +28,9 @@ impl VPart {
             (λ rows new. new ≡ zip (ids_of_join (inner_join self.now other.now)) rows) result }
     {
         let beside = Beside::of(self.rows(), other.rows());
-        let (bools, rows) = traverse_pairs(self.alloc(), beside, f)?;
-        let both = self.pick(bools.as_slice())?;
-        Ok(both.with_rows(rows)?)
+        let (bools, rows) = map_pairs(self.alloc(), self.mask.as_ref(), beside, f)?;
+        let all = VPart::of_columns(self.alloc(), &self.index, &self.mask, rows)?;
+        Ok(all.pick(bools.as_slice())?)
     }
 
     /// The same vertices, each with the row that `f` returns for its row here and its row in
@@ -50,8 +50,8 @@ impl VPart {
             (λ rows new. new ≡ with_rows self.now rows) result }
     {
         let beside = Beside::of(self.rows(), other.rows());
-        let rows = traverse_beside(self.alloc(), beside, f)?;
-        Ok(self.with_rows(rows)?)
+        let rows = map_beside(self.alloc(), self.mask.as_ref(), beside, f)?;
+        Ok(VPart::of_columns(self.alloc(), &self.index, &self.mask, rows)?)
     }
 
     /// The vertices that are not in `other`. The index and the rows are shared.

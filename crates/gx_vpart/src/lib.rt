@@ -11,6 +11,7 @@
 mod beside;
 mod columns;
 mod joins;
+mod peekable_rows;
 mod rows;
 mod rows_builder;
 mod slots;

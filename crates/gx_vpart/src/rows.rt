@@ -1,8 +1,8 @@
 //! Rows by slot, in chunks of 32 that are shared.
 
-ghost use Rattle.std.specs.Prelude.{◌≡◌, ◌+◌, ◌∷◌, ◌<◌, ◌≤◌, ◌^◌, IfOk, List, [], length, slice_get, vec_len};
+ghost use Rattle.std.specs.Prelude.{◌≡◌, ◌+◌, ◌∷◌, ◌<◌, ◌≤◌, ◌^◌, IfOk, List, [], drop, length, slice_get, vec_len};
 ghost use Rattle.std.specs.Option.{option_copied};
-ghost use Rattle.gx_vpart.specs.Chunks.{HasChunksOf, items_of_chunks, shared_chunks};
+ghost use Rattle.gx_vpart.specs.Chunks.{HasChunksOf, IsPieceAt, items_of_chunks, shared_chunks};
 
 use gx_rows::{NoMemory, Row};
 use std::alloc::Global;
@@ -45,6 +45,24 @@ impl Rows {
             None => None,
         }
     }
+
+    /// The rows from a slot on up to the end of its chunk; none exactly if there is no such slot.
+    pub fn chunk_from(&self, slot: u32) -> &[Row]
+        ensures piece { IsPieceAt slot result.now self.now }
+        ensures nonempty { slot < length self.now → 0 < length result.now }
+    {
+        match item(self.chunks.as_slice(), slot / 32) {
+            Some(chunk) => rest_from(chunk.as_slice(), slot % 32),
+            None => &[],
+        }
+    }
+}
+
+fn rest_from<T>(items: &[T], i: u32) -> &[T]
+    ensures { result.now ≡ drop i items.now }
+{
+    let i = i as usize;
+    if i <= items.len() { &items[i..] } else { &[] }
 }
 
 fn item<T>(items: &[T], i: u32) -> Option<&T>

@@ -31,13 +31,13 @@ impl Model for RowsBuilder {
 }
 
 impl RowsBuilder {
-    /// No row yet.
-    pub fn new(alloc: Global) -> RowsBuilder
-        ensures { result ≡ [] }
+    /// No row yet, with room for the list of the chunks of `rows` rows.
+    pub fn with_capacity(alloc: Global, rows: usize) -> Result<RowsBuilder, NoMemory>
+        ensures { IfOk result (λ builder. builder ≡ []) }
     {
-        let full = Vec::new(alloc);
-        let last = Vec::new(alloc);
-        RowsBuilder { full, last, alloc }
+        let full = Vec::with_capacity(alloc, rows / 32 + 1)?;
+        let last = Vec::with_capacity(alloc, rows.min(32))?;
+        Ok(RowsBuilder { full, last, alloc })
     }
 
     /// One more row, after the others. If memory runs out, rows may be lost.

@@ -1,16 +1,13 @@
 //! From items in a row to slots under a mask.
 
-ghost use Rattle.std.specs.Prelude.{◌≡◌, ◌<◌, IfOk, Some, false, length, slice_get, slice_set, [], List};
-ghost use Rattle.std.specs.Vec.Iter.{into_iter_items};
+ghost use Rattle.std.specs.Prelude.{◌≡◌, ◌<◌, ◌++◌, ◌∷◌, IfOk, OnOk, Some, true, false, length, slice_get, slice_set, [], List};
 ghost use Rattle.gx_rows.specs.declared.value.Value.{Value as Cell};
-ghost use Rattle.gx_vpart.specs.Slots.{item_for, items_after, spread_items, thinned_mask};
+ghost use Rattle.gx_vpart.specs.Slots.{IsSpreadUpTo, item_for, items_after, spread_items, thinned_mask};
 
-use crate::rows::Rows;
 use crate::rows_builder::RowsBuilder;
 use gx_mask::Mask;
 use gx_rows::{NoMemory, Row};
 use std::alloc::Global;
-use std::vec::IntoIter;
 
 /// The mask without those of its slots at which the bools, one for each, are false.
 pub fn thin(alloc: Global, mask: &Mask, bools: &[bool]) -> Result<Mask, NoMemory>
@@ -48,27 +45,66 @@ fn put(mask: &mut Mask, slot: u32, value: bool)
     }
 }
 
-/// The rows at the slots that the mask has, in order, and an empty row at each other slot.
-pub fn spread(alloc: Global, mask: &Mask, rows: Vec<Row>) -> Result<Rows, NoMemory>
-    ensures { IfOk result (λ r. r ≡ spread_items {A = List Cell} [] mask.now rows.items) }
+/// Adds the row of the next slot that the mask has, from `slot` on, and an empty row for each slot
+/// before it. `slot` is the first one that has no row yet, and so is the result afterwards. If the
+/// mask has no further slot, the row is dropped.
+pub fn push_masked(
+    alloc: Global,
+    builder: &mut RowsBuilder,
+    mask: &Mask,
+    slot: u32,
+    row: Row,
+) -> Result<u32, NoMemory>
+    ensures { (rows : List (List Cell)) → IsSpreadUpTo [] mask.now rows slot builder.old
+        → IfOk result (λ next. IsSpreadUpTo [] mask.now (rows ++ row ∷ []) next builder.new) }
 {
-    let mut builder = RowsBuilder::new(alloc);
-    let mut rest = rows.into_iter();
-    for slot in 0..mask.len() {
-        builder.push(next_row(alloc, mask.test(slot), &mut rest))?;
+    let next = skip_unmasked(alloc, builder, mask, slot)?;
+    if next < mask.len() {
+        builder.push(row)?;
+        return Ok(next + 1);
     }
-    builder.finish()
+    Ok(next)
 }
 
-fn next_row(alloc: Global, there: bool, rest: &mut IntoIter<Row>) -> Row
-    ensures item { result ≡ item_for {A = List Cell} [] there (into_iter_items rest.old) }
-    ensures after { into_iter_items rest.new ≡ items_after there (into_iter_items rest.old) }
+// Adds an empty row for each slot up to the next one that the mask has, which is the result.
+fn skip_unmasked(
+    alloc: Global,
+    builder: &mut RowsBuilder,
+    mask: &Mask,
+    slot: u32,
+) -> Result<u32, NoMemory>
+    ensures same_rows { (rows : List (List Cell)) → IsSpreadUpTo [] mask.now rows slot builder.old
+        → IfOk result (λ next. IsSpreadUpTo [] mask.now rows next builder.new) }
+    ensures masked { IfOk result
+        (λ next. next < length mask.now → slice_get mask.now next ≡ Some true) }
 {
-    if !there {
-        return Row::of(Vec::new(alloc));
+    let mut next = slot;
+    'unmasked: while next < mask.len() && !mask.test(next) {
+        builder.push(empty_row(alloc))?;
+        next += 1;
     }
-    match rest.next() {
-        Some(row) => row,
-        None => Row::of(Vec::new(alloc)),
+    Ok(next)
+}
+
+/// Adds an empty row for each slot from `slot` on, the first one that has no row yet.
+pub fn push_rest(
+    alloc: Global,
+    builder: &mut RowsBuilder,
+    mask: &Mask,
+    slot: u32,
+) -> Result<(), NoMemory>
+    ensures { (rows : List (List Cell)) → IsSpreadUpTo [] mask.now rows slot builder.old
+        → OnOk result (builder.new ≡ spread_items {A = List Cell} [] mask.now rows) }
+{
+    'rest: for _next in slot..mask.len() {
+        builder.push(empty_row(alloc))?;
     }
+    Ok(())
+}
+
+/// A row with no value, for a slot that does not count.
+pub fn empty_row(alloc: Global) -> Row
+    ensures { result ≡ [] }
+{
+    Row::of(Vec::new(alloc))
 }

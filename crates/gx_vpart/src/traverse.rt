@@ -16,9 +16,14 @@ ghost use Rattle.gx_vpart.specs.Operators.{
   vertex_key,
   with_partner,
 };
+ghost use Rattle.gx_vpart.specs.Slots.{IsSpreadWithBools, spread_items};
 
 use crate::beside::Beside;
+use crate::rows::Rows;
+use crate::rows_builder::RowsBuilder;
+use crate::slots::{empty_row, push_masked, push_rest};
 use crate::vrows::VRows;
+use gx_mask::Mask;
 use gx_rows::{EvalStop, NoMemory, PartStop, Row, RowKey, Vid};
 use gx_traverse::stop_at;
 use std::alloc::Global;
@@ -43,49 +48,82 @@ pub fn traverse_rows<B: Drop, F: Fn(Vid, &Row) -> Result<B, EvalStop>>(
     Ok(values)
 }
 
-/// What `f` returns for each row and the one beside it, if there is one, in order.
-pub fn traverse_beside<B: Drop, F: Fn(Vid, &Row, Option<&Row>) -> Result<B, EvalStop>>(
+/// The rows that `f` returns for each row, at the slots of the mask.
+pub fn map_rows<F: Fn(Vid, &Row) -> Result<Row, EvalStop>>(
     alloc: Global,
-    rows: Beside<'_>,
+    mask: &Mask,
+    rows: VRows<'_>,
     f: F,
-) -> Result<Vec<B>, PartStop>
-    requires { All (MayCallBeside (F.pre f)) rows }
-    ensures { IsTraversal (ReturnsBeside (F.post f)) join_key rows.entry
-        (λ ys values. values.items ≡ ys) result }
+) -> Result<Rows, PartStop>
+    requires { All (MayCallAtVertex (F.pre f)) rows }
+    ensures { IsTraversal (ReturnsAtVertex (F.post f)) vertex_key rows.entry
+        (λ ys new. new ≡ spread_items [] mask.now ys) result }
 {
-    let mut values = Vec::new(alloc);
-    'rows: for (v, row, other) in rows {
-        match f(v, row, other) {
-            Ok(value) => push(&mut values, value)?,
+    let mut builder = RowsBuilder::with_capacity(alloc, mask.len() as usize)?;
+    let mut slot = 0;
+    'rows: for (v, row) in rows {
+        match f(v, row) {
+            Ok(value) => slot = push_masked(alloc, &mut builder, mask, slot, value)?,
             Err(stop) => return Err(stop_at_vertex(v, stop)),
         }
     }
-    Ok(values)
+    push_rest(alloc, &mut builder, mask, slot)?;
+    Ok(builder.finish()?)
 }
 
-/// Which rows have one beside them, and what `f` returns for these, in order.
-pub fn traverse_pairs<B: Drop, F: Fn(Vid, &Row, &Row) -> Result<B, EvalStop>>(
+/// The rows that `f` returns for each row and the one beside it, if there is one, at the slots of
+/// the mask.
+pub fn map_beside<F: Fn(Vid, &Row, Option<&Row>) -> Result<Row, EvalStop>>(
     alloc: Global,
+    mask: &Mask,
     rows: Beside<'_>,
     f: F,
-) -> Result<(Vec<bool>, Vec<B>), PartStop>
+) -> Result<Rows, PartStop>
+    requires { All (MayCallBeside (F.pre f)) rows }
+    ensures { IsTraversal (ReturnsBeside (F.post f)) join_key rows.entry
+        (λ ys new. new ≡ spread_items [] mask.now ys) result }
+{
+    let mut builder = RowsBuilder::with_capacity(alloc, mask.len() as usize)?;
+    let mut slot = 0;
+    'rows: for (v, row, other) in rows {
+        match f(v, row, other) {
+            Ok(value) => slot = push_masked(alloc, &mut builder, mask, slot, value)?,
+            Err(stop) => return Err(stop_at_vertex(v, stop)),
+        }
+    }
+    push_rest(alloc, &mut builder, mask, slot)?;
+    Ok(builder.finish()?)
+}
+
+/// Which rows have one beside them, and what `f` returns for these, at the slots of the mask; an
+/// empty row is at the slots of the others.
+pub fn map_pairs<F: Fn(Vid, &Row, &Row) -> Result<Row, EvalStop>>(
+    alloc: Global,
+    mask: &Mask,
+    rows: Beside<'_>,
+    f: F,
+) -> Result<(Vec<bool>, Rows), PartStop>
     requires { All (MayCallAtPair (F.pre f)) (filter_map with_partner rows) }
     ensures { IsTraversal (ReturnsAtPair (F.post f)) join_key (filter_map with_partner rows.entry)
-        (λ ys v. (v.1.items ≡ ys) × (v.0.items ≡ map has_partner rows.entry)) result }
+        (λ ys v. (v.0.items ≡ map has_partner rows.entry)
+        × IsSpreadWithBools [] mask.now v.0.items ys v.1) result }
 {
-    let mut bools = Vec::new(alloc);
-    let mut values = Vec::new(alloc);
+    let mut bools = room_for_bools(alloc, mask.len())?;
+    let mut builder = RowsBuilder::with_capacity(alloc, mask.len() as usize)?;
+    let mut slot = 0;
     'rows: for (v, row, other) in rows {
         push(&mut bools, other.is_some())?;
         let Some(other) = other else {
+            slot = push_masked(alloc, &mut builder, mask, slot, empty_row(alloc))?;
             continue;
         };
         match f(v, row, other) {
-            Ok(value) => push(&mut values, value)?,
+            Ok(value) => slot = push_masked(alloc, &mut builder, mask, slot, value)?,
             Err(stop) => return Err(stop_at_vertex(v, stop)),
         }
     }
-    Ok((bools, values))
+    push_rest(alloc, &mut builder, mask, slot)?;
+    Ok((bools, builder.finish()?))
 }
 
 /// Which rows have none beside them.
@@ -123,6 +161,12 @@ fn differs(old: Option<&Row>, new: &Row) -> bool
         Some(old) => old != new,
         None => false,
     }
+}
+
+fn room_for_bools(alloc: Global, count: u32) -> Result<Vec<bool>, NoMemory>
+    ensures { IfOk result (λ bools. bools.items ≡ []) }
+{
+    Ok(Vec::with_capacity(alloc, count as usize)?)
 }
 
 /// One more item.

@@ -7,11 +7,12 @@ ghost use Rattle.gx_index.specs.Ids.{HasDistinctIds, IsAscending};
 ghost use Rattle.gx_traverse.specs.Calls.{MayCallAtVertex, ReturnsAtVertex};
 ghost use Rattle.gx_traverse.specs.Traversal.{IsTraversal};
 ghost use Rattle.gx_vpart.specs.Operators.{picked, row_at, vertex_key, with_rows};
+ghost use Rattle.gx_vpart.specs.Slots.{HasSlots, masked_rows};
 
 use crate::columns::columns;
 use crate::rows::Rows;
-use crate::slots::{spread, thin};
-use crate::traverse::traverse_rows;
+use crate::slots::thin;
+use crate::traverse::{map_rows, traverse_rows};
 use crate::vrows::VRows;
 use gx_index::Index;
 use gx_mask::Mask;
@@ -24,9 +25,9 @@ use std::rc::Rc;
 /// ascending.
 #[derive(Drop)]
 pub struct VPart {
-    index: Rc<Index>,
+    pub(crate) index: Rc<Index>,
     rows: Rc<Rows>,
-    mask: Rc<Mask>,
+    pub(crate) mask: Rc<Mask>,
     alloc: Global,
 }
 
@@ -101,8 +102,8 @@ impl VPart {
         ensures { IsTraversal (ReturnsAtVertex (F.post f)) vertex_key self.now
             (λ rows new. new ≡ with_rows self.now rows) result }
     {
-        let rows = traverse_rows(self.alloc, self.rows(), f)?;
-        Ok(self.with_rows(rows)?)
+        let rows = map_rows(self.alloc, self.mask.as_ref(), self.rows(), f)?;
+        Ok(VPart::of_columns(self.alloc, &self.index, &self.mask, rows)?)
     }
 
     /// The vertices for which `f` returns true. The index and the rows are shared; no row is copied.
@@ -127,17 +128,21 @@ impl VPart {
         self.alloc
     }
 
-    // The same vertices with these rows, one for each.
-    pub(crate) fn with_rows(&self, rows: Vec<Row>) -> Result<VPart, NoMemory>
-        requires { length rows.items ≡ length self.now }
-        ensures { IfOk result (λ new. new ≡ with_rows self.now rows.items) }
+    // The vertices of the slots that the mask has. The index and the mask are shared.
+    pub(crate) fn of_columns(
+        alloc: Global,
+        index: &Rc<Index>,
+        mask: &Rc<Mask>,
+        rows: Rows,
+    ) -> Result<VPart, NoMemory>
+        requires { HasSlots mask.now.value index.now.value rows }
+        ensures { IfOk result (λ new. new ≡ masked_rows mask.now.value index.now.value rows) }
     {
-        let rows = spread(self.alloc, self.mask.as_ref(), rows)?;
         Ok(VPart {
-            index: self.index.clone()?,
-            rows: Rc::new(self.alloc, rows)?,
-            mask: self.mask.clone()?,
-            alloc: self.alloc,
+            index: index.clone()?,
+            rows: Rc::new(alloc, rows)?,
+            mask: mask.clone()?,
+            alloc,
         })
     }
 

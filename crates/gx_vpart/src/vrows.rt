@@ -1,7 +1,9 @@
 //! The rows of a partition, one after another.
 
-ghost use Rattle.std.specs.Prelude.{◌≡◌, ◌<◌, ◌^◌, length};
+ghost use Rattle.std.specs.Prelude.{◌≡◌, ◌∷◌, ◌<◌, ◌≤◌, ◌^◌, MatchOption, length};
 ghost use Rattle.std.specs.Iterator.{YieldsFirstBy, item_count};
+ghost use Rattle.gx_mask.specs.Operations.{next_true};
+ghost use Rattle.gx_vpart.specs.Chunks.{IsPieceAt};
 ghost use Rattle.gx_vpart.specs.Slots.{HasSlots, masked_rows};
 
 use crate::rows::Rows;
@@ -18,10 +20,13 @@ pub struct VRows<'a> {
     rows: &'a Rows,
     // Where the next row is looked for.
     slot: u32,
+    // Rows from that slot on, up to the end of a chunk; or none.
+    chunk: &'a [Row],
 }
 
 impl<'a> Model for VRows<'a> {
     ghost use Rattle.std.specs.Prelude.{List, drop};
+    ghost use Rattle.gx_vpart.specs.Chunks.{IsPieceAt};
     ghost use Rattle.gx_vpart.specs.Operators.{VertexRow};
     ghost use Rattle.gx_vpart.specs.Slots.{HasSlots, masked_rows};
 
@@ -29,7 +34,7 @@ impl<'a> Model for VRows<'a> {
 
     ghost view = { λ r. masked_rows (drop r.slot r.mask.now) (drop r.slot r.ids.now) (drop r.slot r.rows.now) };
 
-    ghost invariant = { λ r. HasSlots r.mask.now r.ids.now r.rows.now };
+    ghost invariant = { λ r. HasSlots r.mask.now r.ids.now r.rows.now × IsPieceAt r.slot r.chunk.now r.rows.now };
 }
 
 impl<'a> VRows<'a> {
@@ -43,18 +48,7 @@ impl<'a> VRows<'a> {
             ids,
             rows,
             slot: 0,
-        }
-    }
-
-    /// The same rows once more.
-    pub fn again(&self) -> VRows<'a>
-        ensures { result ≡ self.now }
-    {
-        VRows {
-            mask: self.mask,
-            ids: self.ids,
-            rows: self.rows,
-            slot: self.slot,
+            chunk: &[],
         }
     }
 }
@@ -67,14 +61,45 @@ impl<'a> Iterator for VRows<'a> {
     ghost remaining = { item_count (λ rest. rest) };
 
     fn next(&mut self) -> Option<(Vid, &'a Row)> {
-        let Some(slot) = self.mask.next_set(self.slot) else {
+        let Some(slot) = next_slot(self.mask, self.slot) else {
             return None;
         };
         let rows = self.rows;
-        let Some(row) = rows.get(slot) else {
+        let Some((row, chunk)) = row_and_rest(rows, slot, self.chunk, self.slot) else {
             return None;
         };
         self.slot = slot + 1;
+        self.chunk = chunk;
         Some((self.ids[slot as usize], row))
     }
+}
+
+// The first slot from `from` on that the mask has; in most partitions `from` itself.
+fn next_slot(mask: &Mask, from: u32) -> Option<u32>
+    ensures { result ≡ next_true from mask.now }
+{
+    if from < mask.len() && mask.test(from) {
+        return Some(from);
+    }
+    mask.next_set(from)
+}
+
+// The row of a slot, and rows after it up to the end of its chunk. `chunk` is rows from the slot
+// `from` on, so that a walk which leaves out no slot looks up no chunk but its first row.
+fn row_and_rest<'a>(
+    rows: &'a Rows,
+    slot: u32,
+    chunk: &'a [Row],
+    from: u32,
+) -> Option<(&'a Row, &'a [Row])>
+    requires { IsPieceAt from chunk.now rows.now }
+    ensures { MatchOption result (length rows.now ≤ slot)
+        (λ r. IsPieceAt slot (r.0.now ∷ r.1.now) rows.now) }
+{
+    if from == slot {
+        if let Some(found) = chunk.split_first() {
+            return Some(found);
+        }
+    }
+    rows.chunk_from(slot).split_first()
 }

@@ -1,4 +1,3 @@
-use Rattle.std.proofs.Common.{Ok}
 use Rattle.gx_traverse.specs.Calls.{ReturnsAtVertex}
 use Rattle.gx_traverse.specs.Steps.{SoFar}
 use Rattle.gx_vpart.proofs.traverse.traverse_rows.Given as goal

@@ -1,4 +1,4 @@
-use Rattle.std.proofs.Common.{ap, ◌∙◌, refl}
+use Rattle.std.proofs.Common.{ap, refl}
 use Rattle.gx_vpart.proofs.Chunks.{HasChunksOf-full, items_of_chunks-push, shared_chunks-push}
 use Rattle.gx_vpart.proofs.rows_builder.RowsBuilder.finish.Goals as goal
 

@@ -1,17 +1,16 @@
-use Rattle.std.proofs.Common.{◌≡◌, ◌∙◌, ap, length, refl}
+use Rattle.std.proofs.Common.{[]}
 use Rattle.std.proofs.lemmas.List.{length-map}
-use Rattle.gx_traverse.specs.Steps.{IsTraversal-length, IsTraversal-then}
-use Rattle.gx_vpart.specs.Operators.{with_rows}
+use Rattle.gx_vpart.proofs.Mapping.{HasSlots-traversal, IsTraversal-spread}
 use Rattle.gx_vpart.proofs.vpart.VPart.left_join.Goals as goal
 
-pub traverse_beside-requires : goal.traverse_beside-requires
-traverse_beside-requires g c = rw (c.of-beside.ensures, c.rows.ensures.exact, c.rows-2.ensures.exact) c.requires
+pub map_beside-requires : goal.map_beside-requires
+map_beside-requires g c = rw (c.of-beside.ensures, c.rows.ensures.exact, c.rows-2.ensures.exact) c.requires
 
-pub with_rows-requires : goal.with_rows-requires
-with_rows-requires g c =
-    IsTraversal-length c.in_ok-rows.ensures ∙ ap length c.of-beside.ensures ∙ length-map _ _ ∙ ap length c.rows.ensures.exact
+pub of_columns-requires : goal.of_columns-requires
+of_columns-requires g c = HasSlots-traversal [] (rw c.as_ref.ensures at c.in_ok-rows.ensures) c.self.invariant
 
 pub returns : goal.returns
 returns g c =
-    rw (c.of-beside.ensures, c.rows.ensures.exact, c.rows-2.ensures.exact) at
-    (IsTraversal-then (λ rows new. new ≡ with_rows c.args.self.now rows) c.in_ok-with_rows.field-0 c.in_ok-rows.ensures (λ ys is. rw (c.in_ok-with_rows.ensures, is) refl))
+    let traversal = rw (c.as_ref.ensures, c.of-beside.ensures, c.rows.ensures.exact, c.rows-2.ensures.exact) at c.in_ok-rows.ensures in
+    rw c.self.view_is at
+    (IsTraversal-spread [] c.self.inside.index.value c.self.inside.rows.value c.in_ok-of_columns.field-0 traversal c.self.invariant (rw c.self.view_is (length-map _ _)) c.in_ok-of_columns.ensures)

@@ -1,4 +1,4 @@
-use Rattle.std.proofs.Common.{arith, rules}
+use Rattle.std.proofs.Common.{arith}
 use Rattle.gx_vpart.proofs.MaskedRows.{IsAscending-masked_rows}
 use Rattle.gx_vpart.proofs.Spreading.{HasDistinctIds-columns, HasSlots-columns, length-columns, masked_rows-columns}
 use Rattle.gx_vpart.proofs.vpart.VPart.of.Goals as goal
