@@ -1,0 +1,4 @@
+pub mod Built
+pub mod Needs
+pub mod ScriptTyping
+pub mod TypeStops
