@@ -1,0 +1,3 @@
+mod ValueWalk
+mod Conversions
+mod NodeCounts
