@@ -1,3 +1,5 @@
 mod ValueWalk
 mod Conversions
 mod NodeCounts
+mod BoundLemmas
+mod SendWalk

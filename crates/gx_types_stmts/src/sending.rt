@@ -86,6 +86,7 @@ pub(crate) fn type_sends(
 }
 
 // Checks a send: its values, and then its test.
+#[tactic(auto, using(crate::proofs::BoundLemmas::left_short, crate::proofs::BoundLemmas::right_short, crate::proofs::BoundLemmas::joined_counted))]
 fn type_send(
     alloc: Global,
     clause: &SendClause,

@@ -32,6 +32,7 @@ fn same_table(stmt: TypedStmt, table: &Operand<'_>) -> Result<TypedBody, NoMemor
 /// # Errors
 ///
 /// The first check that fails; `NoMemory` if memory runs out.
+#[tactic(auto, using(crate::proofs::BoundLemmas::lone_short, crate::proofs::BoundLemmas::lone_counted))]
 pub(crate) fn type_filter(
     alloc: Global,
     table: &Operand<'_>,

@@ -27,6 +27,7 @@ pub(crate) struct TypedTest {
 /// # Errors
 ///
 /// The first check that fails; a depth of more than 64; `NoMemory` if memory runs out.
+
 pub(crate) fn type_test(
     alloc: Global,
     test: &Option<Written>,

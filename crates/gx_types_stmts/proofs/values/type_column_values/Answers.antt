@@ -22,6 +22,8 @@ pub returns-in_err-type_expr : goal.returns-in_err-type_expr
 returns-in_err-type_expr c =
     let s = scope_names c.args.scope.now in
     let sets = c.as_slice-set-items.result.now in
-    record { typed = rw (← c.as_slice-set-items.ensures) (stop-converted values_record c.from_residual.result c.in_err-type_expr.field-0.0 (typed_expr s c.sets.typed.next c.set-item.result.value) (typed_values s 0 (column_values sets))
-    (λ f is. column-stop s sets c.sets.set-index c.sets.typed c.set-item.result f c.sets-test.true c.set-item.is c.sets.invariant is)
-    c.from_residual.ensures.1 c.in_err-type_expr.ensures.typed) }
+    record {
+      typed = rw (← c.as_slice-set-items.ensures) (stop-converted values_record c.from_residual.result c.in_err-type_expr.field-0.0 (typed_expr s c.sets.typed.next c.set-item.result.value) (typed_values s 0 (column_values sets))
+          (λ f is. column-stop s sets c.sets.set-index c.sets.typed c.set-item.result f c.sets-test.true c.set-item.is c.sets.invariant is)
+          c.from_residual.ensures.1 c.in_err-type_expr.ensures.typed);
+    }
