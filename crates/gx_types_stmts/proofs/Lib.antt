@@ -3,3 +3,4 @@ mod Conversions
 mod NodeCounts
 mod BoundLemmas
 mod SendWalk
+mod ColumnNames
