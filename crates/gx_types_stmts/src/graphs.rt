@@ -84,6 +84,7 @@ pub(crate) fn type_from_edges(
 /// # Errors
 ///
 /// The first check that fails; `NoMemory` if memory runs out.
+#[tactic(auto, using(crate::proofs::BoundLemmas::left_short, crate::proofs::BoundLemmas::right_short, crate::proofs::BoundLemmas::joined_counted))]
 pub(crate) fn type_subgraph(
     alloc: Global,
     graph: &Operand<'_>,

@@ -75,6 +75,7 @@ pub(crate) struct PregelParts<'a> {
 /// # Errors
 ///
 /// The first check that fails; `NoMemory` if memory runs out.
+#[tactic(auto, using(crate::proofs::BoundLemmas::left_short, crate::proofs::BoundLemmas::right_short, crate::proofs::BoundLemmas::joined_counted))]
 pub(crate) fn type_pregel(
     alloc: Global,
     graph: &Operand<'_>,
