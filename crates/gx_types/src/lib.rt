@@ -8,14 +8,14 @@
 #![tactic(auto)]
 
 mod built;
-mod check;
 mod laws;
 mod needs;
+mod script;
 mod type_stop;
 mod typed;
 
-pub use check::check;
 pub use gx_types_stmts::{CheckedStmt, EdgeEnd, Made, SharedType, TypeKind, TypedSend, TypedStmt};
 pub use laws::parsed_scripts_are_typable;
+pub use script::check;
 pub use type_stop::TypeStop;
 pub use typed::Typed;
