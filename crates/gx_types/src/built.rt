@@ -1,7 +1,7 @@
 //! Statements that are not run yet. To have one run, delete it from the list here and in
 //! specs/Built.antt.
 
-ghost use Rattle.std.specs.Prelude.{◌≡◌, ◌+◌, ◌<◌, ◌^◌, length};
+ghost use Rattle.std.specs.Prelude.{◌≡◌, ◌≤◌, length};
 ghost use Rattle.gx_types.specs.Built as built;
 ghost use Rattle.gx_types.specs.TypeStops.{TypeReturns};
 
@@ -16,7 +16,7 @@ use sqlite_items::Items;
 ///
 /// `NotBuilt` at the first that cannot.
 pub(crate) fn check_built(statements: &Items<Stmt>) -> Result<(), TypeStop>
-    requires { length statements.now < 2 ^ 32 - 1 }
+    requires { length statements.now ≤ 1000 }
     ensures { TypeReturns result (built.built_statements 1 statements.now) }
 {
     let mut number = 1;

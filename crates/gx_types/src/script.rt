@@ -1,8 +1,10 @@
 //! The check of a script.
 
-ghost use Rattle.std.specs.Prelude.{◌≡◌, ◌+◌, ◌<◌, ◌≤◌, All, IfOk, OnOk, length};
+ghost use Rattle.std.specs.Prelude.{◌≡◌, ◌<◌, ◌≤◌, [], ◌∷◌, ◌++◌, All, IfErr, IfOk, OnOk, length};
 ghost use Rattle.gx_types.specs.ScriptTyping as typing;
 ghost use Rattle.gx_types.specs.TypeStops.{TypeReturns};
+ghost use Rattle.gx_types.specs.declared.type_stop.TypeStop.TheVariants as stop;
+ghost use Rattle.gx_types_stmts.specs.KnownNames.{IsEarlier};
 ghost use Rattle.gx_types_stmts.specs.StmtBounds.{IsTypable};
 ghost use Rattle.gx_types_stmts.specs.StmtTyping.{context_with, typed_stmt};
 
@@ -50,7 +52,10 @@ fn type_statements(alloc: Global, statements: &Items<Stmt>) -> Result<Typed, Typ
 }
 
 // Adds a statement to those that are checked.
-fn append(typed: &mut Vec<CheckedStmt>, next: CheckedStmt) -> Result<(), TypeStop> {
+fn append(typed: &mut Vec<CheckedStmt>, next: CheckedStmt) -> Result<(), TypeStop>
+    ensures appended { OnOk result (typed.new.items ≡ typed.old.items ++ next ∷ []) }
+    ensures only_memory { IfErr result (λ e. e ≡ stop.NoMemory) }
+{
     match typed.push(next) {
         Ok(()) => Ok(()),
         Err(_) => Err(TypeStop::NoMemory),
@@ -62,6 +67,7 @@ fn type_next(alloc: Global, known: &mut Known, stmt: &Stmt) -> Result<CheckedStm
     requires few { known.old.count < 1000 }
     requires typable { IsTypable stmt.now }
     ensures typed { TypeReturns result (typing.numbered_stmt known.old stmt.now) }
+    ensures earlier { IfOk result (λ t. All (IsEarlier known.old.count) t.uses) }
     ensures added { IfOk result (λ t. known.new ≡ context_with known.old stmt.now t.made) }
 {
     match type_stmt(alloc, known, stmt) {

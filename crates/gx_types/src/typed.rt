@@ -19,8 +19,12 @@ impl Model for Typed {
     ghost use Rattle.std.specs.Prelude.{List, ◌<◌, ◌^◌, vec_len};
     ghost use Rattle.gx_types.specs.Needs.{UseEarlier};
     ghost use Rattle.gx_types_stmts.specs.declared.checked_stmt.CheckedStmt.{CheckedStmt as Statement};
+    ghost use Rattle.gx_types_stmts.specs.contracts.checked_stmt.CheckedStmt as statement;
+    ghost use Rattle.std.specs.Coded.{codes};
 
     ghost Value = { List Statement };
+
+    ghost coded = { Prim.hlevel (codes, statement.the_row.coded) };
 
     ghost view = { λ t. t.statements.items };
 
