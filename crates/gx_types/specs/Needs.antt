@@ -1,6 +1,7 @@
 -- Which statements a statement needs.
-use Rattle.std.specs.Prelude.{◌≡◌, ℕ, suc, ◌+◌, ◌-◌, ◌<◌, ◌≤◌, ◌↔◌, Option, Some, List, [], ◌∷◌, All, Contains, IsSorted, slice_get, option_map, refl}
+use Rattle.std.specs.Prelude.{◌≡◌, ℕ, ◌-◌, ◌≤◌, Some, List, All, slice_get}
 use Rattle.std.specs.List.{IsAmong}
+use Rattle.std.specs.List.Sorted.{IsStrictlyIncreasing}
 use Rattle.gx_types_stmts.specs.KnownNames.{IsEarlier}
 use Rattle.gx_types_stmts.specs.declared.checked_stmt.CheckedStmt.{CheckedStmt}
 
@@ -22,5 +23,6 @@ UseEarlier ts = (i : ℕ) (t : CheckedStmt) → slice_get ts i ≡ Some t → Al
 
 -- all statements that are needed, and no others, in ascending order
 pub record AreNeeded (ts : List CheckedStmt) (s : ℕ) (ns : List ℕ) : Type 0 where
-  pub ascending : (i a b : ℕ) → slice_get ns i ≡ Some a → slice_get ns (i + 1) ≡ Some b → a < b
-  pub needed : (u : ℕ) → IsAmong ns u ↔ IsNeeded ts s u
+  pub ascending : IsStrictlyIncreasing ns
+  pub complete : (u : ℕ) → IsNeeded ts s u → IsAmong ns u
+  pub sound : (u : ℕ) → IsAmong ns u → IsNeeded ts s u
