@@ -1,3 +1,5 @@
 mod BuiltLemmas
 mod ScriptWalk
 mod UseLemmas
+mod MarkLemmas
+mod NeedLemmas

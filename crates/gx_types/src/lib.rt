@@ -9,6 +9,7 @@
 
 mod built;
 mod laws;
+mod marks;
 mod needs;
 mod script;
 mod type_stop;
