@@ -1,0 +1,126 @@
+-- Lists of columns, walked by position.
+use Rattle.std.proofs.Common.{◌≡◌, ◌≢◌, ℕ, suc, ◌+◌, ◌<◌, ◌≤◌, Bool, true, false, not, ◌&&◌, IsPermutation, Option, Some, None, List, [], ◌∷◌, ◌++◌, length, map, take, drop, get_or, refl, sym, ap, subst, ◌∙◌, arith}
+use Rattle.std.specs.Prelude.{slice_get, option_map}
+use Rattle.std.specs.Cmp.Lexicographic.{pointwise}
+use Rattle.std.specs.Str.{bytes_eq}
+use Rattle.std.proofs.lemmas.List.{drop_all, drop_more, take-map, take_more}
+use Rattle.std.proofs.lemmas.List.Sorted.{length_permutation}
+use Rattle.std.proofs.lemmas.Option.{get_or_from_slice_get, slice_get_within, slice_get-map}
+use Rattle.gx_rows.specs.Columns.{Column, names_of}
+use Rattle.gx_rows.specs.declared.value.ValueKind.{ValueKind}
+use Rattle.gx_types_stmts.specs.SameColumns.{is_same_column, is_same_kind}
+
+-- ---- two lists, compared item by item
+
+-- the first i items agree, so that the rest decides; both lists have n items
+pub record IsComparedFrom {A B : Type 0} (E : A → B → Bool) (xs : List A) (ys : List B) (i n : ℕ) : Type 0 where
+  pub left_long : n ≡ length xs
+  pub right_long : n ≡ length ys
+  pub so_far : pointwise E (drop i xs) (drop i ys) ≡ pointwise E xs ys
+
+and-false : (b : Bool) → (b && false) ≡ false
+and-false true = refl
+and-false false = refl
+
+not-true : (b : Bool) → true ≡ not b → b ≡ false
+not-true true h = cc
+not-true false h = refl
+
+not-false : (b : Bool) → false ≡ not b → b ≡ true
+not-false true h = refl
+not-false false h = cc
+
+-- lists of different lengths differ
+pub differ-long : {A B : Type 0} (E : A → B → Bool) (xs : List A) (ys : List B) → length xs ≢ length ys → false ≡ pointwise E xs ys
+differ-long E [] [] h = absurd (h refl)
+differ-long E [] (y ∷ ys) h = refl
+differ-long E (x ∷ xs) [] h = refl
+differ-long E (x ∷ xs) (y ∷ ys) h = sym (and-false (E x y)) ∙ ap (λ b. E x y && b) (differ-long E xs ys (λ e. h (ap suc e)))
+
+-- the rest begins with the item at i
+pub rest-at : {A : Type 0} (xs : List A) (i : ℕ) (x : A) → slice_get xs i ≡ Some x → drop i xs ≡ x ∷ drop (i + 1) xs
+rest-at xs i x is = drop_more xs i x (slice_get_within xs i x is) ∙ ap (λ y. y ∷ drop (i + 1) xs) (get_or_from_slice_get xs i x x is)
+
+module _ {A B : Type 0} (E : A → B → Bool) (xs : List A) (ys : List B) (i n : ℕ) where
+  pub compared-none : n ≡ length xs → n ≡ length ys → IsComparedFrom E xs ys 0 n
+  compared-none l r = record { left_long = l; right_long = r; so_far = refl }
+
+  rest-both : (x : A) (y : B) → IsComparedFrom E xs ys i n → slice_get xs i ≡ Some x → slice_get ys i ≡ Some y
+      → (E x y && pointwise E (drop (i + 1) xs) (drop (i + 1) ys)) ≡ pointwise E xs ys
+  rest-both x y h at also =
+      subst (λ zs. pointwise E zs (y ∷ drop (i + 1) ys) ≡ pointwise E xs ys) (rest-at xs i x at)
+      (subst (λ zs. pointwise E (drop i xs) zs ≡ pointwise E xs ys) (rest-at ys i y also) h.so_far)
+
+  pub compared-next : (x : A) (y : B) → IsComparedFrom E xs ys i n → slice_get xs i ≡ Some x → slice_get ys i ≡ Some y → E x y ≡ true → IsComparedFrom E xs ys (i + 1) n
+  compared-next x y h at also same = record {
+    left_long = h.left_long;
+    right_long = h.right_long;
+    so_far = ap (λ b. b && pointwise E (drop (i + 1) xs) (drop (i + 1) ys)) (sym same) ∙ rest-both x y h at also;
+  }
+
+  pub compared-stop : (x : A) (y : B) → IsComparedFrom E xs ys i n → slice_get xs i ≡ Some x → slice_get ys i ≡ Some y → E x y ≡ false → false ≡ pointwise E xs ys
+  compared-stop x y h at also other = ap (λ b. b && pointwise E (drop (i + 1) xs) (drop (i + 1) ys)) (sym other) ∙ rest-both x y h at also
+
+  pub compared-all : n ≤ i → IsComparedFrom E xs ys i n → true ≡ pointwise E xs ys
+  compared-all past h =
+      subst (λ zs. pointwise E zs [] ≡ pointwise E xs ys) (drop_all i xs (omega (arith, h.left_long)))
+      (subst (λ zs. pointwise E (drop i xs) zs ≡ pointwise E xs ys) (drop_all i ys (omega (arith, h.right_long))) h.so_far)
+
+-- ---- columns
+
+-- the kind at i, among all kinds
+pub kind-at : (columns : List Column) (i : ℕ) (k : ValueKind) → option_map (λ c. c.1) (slice_get columns i) ≡ Some k → slice_get (map (λ (c : Column). c.1) columns) i ≡ Some k
+kind-at columns i k is = slice_get-map (λ (c : Column). c.1) columns i ∙ is
+
+of-both : (c : Option Column) (name : List ℕ) (k : ValueKind) → option_map (λ c. c.0) c ≡ Some name → option_map (λ c. c.1) c ≡ Some k → c ≡ Some (name, k)
+of-both None name k named kind = cc
+of-both (Some (m, j)) name k named kind = cc
+
+-- the column at i has its name and its kind
+pub column-at : (columns : List Column) (i : ℕ) (name : List ℕ) (k : ValueKind) → slice_get (names_of columns) i ≡ Some name → option_map (λ c. c.1) (slice_get columns i) ≡ Some k
+    → slice_get columns i ≡ Some (name, k)
+column-at columns i name k named kind = of-both (slice_get columns i) name k (sym (slice_get-map (λ (c : Column). c.0) columns i) ∙ named) kind
+
+from-name : (c : Option Column) (name : List ℕ) → option_map (λ c. c.0) c ≡ Some name → (k : ValueKind) × (c ≡ Some (name, k))
+from-name None name named = absurd (cc)
+from-name (Some (m, k)) name named = (k, cc)
+
+name-at : (columns : List Column) (i : ℕ) (name : List ℕ) → slice_get (names_of columns) i ≡ Some name → (k : ValueKind) × (slice_get columns i ≡ Some (name, k))
+name-at columns i name named = from-name (slice_get columns i) name (sym (slice_get-map (λ (c : Column). c.0) columns i) ∙ named)
+
+module _ (xs ys : List Column) (i n : ℕ) (name other : List ℕ) where
+  -- columns of other names differ
+  pub other-name : IsComparedFrom is_same_column xs ys i n → slice_get (names_of xs) i ≡ Some name → slice_get (names_of ys) i ≡ Some other → true ≡ not (bytes_eq name other)
+      → false ≡ pointwise is_same_column xs ys
+  other-name h at also differ =
+      let x = name-at xs i name at in
+      let y = name-at ys i other also in
+      compared-stop is_same_column xs ys i n (name, x.0) (other, y.0) h x.1 y.1 (rw (not-true (bytes_eq name other) differ) refl)
+
+  pub other-kind : (k l : ValueKind) → IsComparedFrom is_same_column xs ys i n → slice_get (names_of xs) i ≡ Some name → slice_get (names_of ys) i ≡ Some other
+      → option_map (λ c. c.1) (slice_get xs i) ≡ Some k → option_map (λ c. c.1) (slice_get ys i) ≡ Some l → is_same_kind k l ≡ false
+      → false ≡ pointwise is_same_column xs ys
+  other-kind k l h at also kind also_kind differ =
+      compared-stop is_same_column xs ys i n (name, k) (other, l) h (column-at xs i name k at kind) (column-at ys i other l also also_kind) (rw differ (and-false (bytes_eq name other)))
+
+  pub same-column : (k l : ValueKind) → IsComparedFrom is_same_column xs ys i n → slice_get (names_of xs) i ≡ Some name → slice_get (names_of ys) i ≡ Some other
+      → option_map (λ c. c.1) (slice_get xs i) ≡ Some k → option_map (λ c. c.1) (slice_get ys i) ≡ Some l → false ≡ not (bytes_eq name other) → is_same_kind k l ≡ true
+      → IsComparedFrom is_same_column xs ys (i + 1) n
+  same-column k l h at also kind also_kind same alike =
+      compared-next is_same_column xs ys i n (name, k) (other, l) h (column-at xs i name k at kind) (column-at ys i other l also also_kind) (rw (not-false (bytes_eq name other) same, alike) refl)
+
+-- one kind more
+pub kinds-more : (columns : List Column) (i : ℕ) (k : ValueKind) → option_map (λ c. c.1) (slice_get columns i) ≡ Some k
+    → map (λ (c : Column). c.1) (take (i + 1) columns) ≡ map (λ (c : Column). c.1) (take i columns) ++ k ∷ []
+kinds-more columns i k is =
+    let kinds = map (λ (c : Column). c.1) columns in
+    let at : slice_get kinds i ≡ Some k = kind-at columns i k is in
+    sym (take-map (λ (c : Column). c.1) (i + 1) columns) ∙ take_more kinds i k (slice_get_within kinds i k at)
+    ∙ rw (get_or_from_slice_get kinds i k k at, take-map (λ (c : Column). c.1) i columns) refl
+
+-- ---- constants
+
+-- the empty list has no other order
+pub empty-sorted : {A : Type 0} (xs : List A) → IsPermutation [] xs → xs ≡ []
+empty-sorted [] p = refl
+empty-sorted (x ∷ xs) p = absurd (omega (arith, length_permutation [] (x ∷ xs) p))
