@@ -1,11 +1,19 @@
 -- Lists of columns, walked by position.
-use Rattle.std.proofs.Common.{◌≡◌, ◌≢◌, ℕ, suc, ◌+◌, ◌<◌, ◌≤◌, Bool, true, false, not, ◌&&◌, IsPermutation, Option, Some, None, List, [], ◌∷◌, ◌++◌, length, map, take, drop, get_or, refl, sym, ap, subst, ◌∙◌, arith}
-use Rattle.std.specs.Prelude.{slice_get, option_map}
+use Rattle.std.proofs.Common.{◌≡◌, ◌≢◌, ℕ, suc, ◌+◌, ◌<◌, ◌≤◌, Bool, true, false, not, ◌&&◌, IsPermutation, Option, Some, None, ◌⊎◌, inl, inr, List, [], ◌∷◌, ◌++◌, length, map, take, drop, get_or, refl, sym, ap, subst, ◌∙◌, arith, append_assoc}
+use Rattle.std.specs.Prelude.{slice_get, option_map, zip}
 use Rattle.std.specs.Cmp.Lexicographic.{pointwise}
 use Rattle.std.specs.Str.{bytes_eq}
-use Rattle.std.proofs.lemmas.List.{drop_all, drop_more, take-map, take_more}
+use Rattle.std.proofs.lemmas.List.{append-nil, drop_all, drop_more, take-map, take_more}
 use Rattle.std.proofs.lemmas.List.Sorted.{length_permutation}
-use Rattle.std.proofs.lemmas.Option.{get_or_from_slice_get, slice_get_within, slice_get-map}
+use Rattle.std.proofs.lemmas.Option.{get_or_from_slice_get, slice_get_read, slice_get_within, slice_get-map}
+use Rattle.std.proofs.iter.Yields.{fronts}
+use Rattle.std.proofs.lemmas.Iterator.{zips}
+use Rattle.std.proofs.lemmas.Slice.Zip.{Zip-more, either_empty_from_Zip}
+use Rattle.std.specs.Iterator.Adapters.{zip_first, zip_second}
+use Rattle.std.specs.declared.iter.Zip.{Zip}
+use Rattle.std.specs.declared.slice.Iter.{Iter}
+use Rattle.std.specs.Slice.Iter.{iter_rest}
+use denote.Ref.{Bor}
 use Rattle.gx_rows.specs.Columns.{Column, names_of}
 use Rattle.gx_rows.specs.declared.value.ValueKind.{ValueKind}
 use Rattle.gx_types_stmts.specs.SameColumns.{is_same_column, is_same_kind}
@@ -66,6 +74,10 @@ module _ {A B : Type 0} (E : A → B → Bool) (xs : List A) (ys : List B) (i n 
       subst (λ zs. pointwise E zs [] ≡ pointwise E xs ys) (drop_all i xs (omega (arith, h.left_long)))
       (subst (λ zs. pointwise E (drop i xs) zs ≡ pointwise E xs ys) (drop_all i ys (omega (arith, h.right_long))) h.so_far)
 
+-- the item at i, in a list of what f makes of each
+pub mapped-at : {A B : Type 0} (f : A → B) (xs : List A) (i : ℕ) (x : A) (y : B) → i < length xs → x ≡ get_or xs i x → y ≡ f x → slice_get (map f xs) i ≡ Some y
+mapped-at f xs i x y below is made = slice_get-map f xs i ∙ ap (option_map f) (slice_get_read xs (length xs) i x refl below is) ∙ ap Some (sym made)
+
 -- ---- columns
 
 -- the kind at i, among all kinds
@@ -117,6 +129,39 @@ kinds-more columns i k is =
     let at : slice_get kinds i ≡ Some k = kind-at columns i k is in
     sym (take-map (λ (c : Column). c.1) (i + 1) columns) ∙ take_more kinds i k (slice_get_within kinds i k at)
     ∙ rw (get_or_from_slice_get kinds i k k at, take-map (λ (c : Column). c.1) i columns) refl
+
+-- ---- two lists, walked side by side
+
+-- the pairs that a walk has before it
+abbrev pub pairs_left : {A B : Type 0} → Zip (Iter A) (Iter B) → List (A × B)
+pairs_left s = zip (iter_rest (zip_first s)) (iter_rest (zip_second s))
+
+zip-none : {A B : Type 0} (xs : List A) (ys : List B) → (xs ≡ []) ⊎ (ys ≡ []) → zip xs ys ≡ []
+zip-none [] ys e = refl
+zip-none (x ∷ xs) [] e = refl
+zip-none (x ∷ xs) (y ∷ ys) (inl e) = cc
+zip-none (x ∷ xs) (y ∷ ys) (inr e) = cc
+
+module _ {A B : Type 0} (s t : Zip (Iter A) (Iter B)) (r : Option (Bor A × Bor B)) where
+  pub pairs-none : r ≡ None → zips fronts fronts s r t → pairs_left s ≡ []
+  pairs-none e h = zip-none (iter_rest (zip_first s)) (iter_rest (zip_second s)) (either_empty_from_Zip s t r e h)
+
+  pub pairs-more : (p : Bor A × Bor B) → r ≡ Some p → zips fronts fronts s r t → pairs_left s ≡ (p.0.now, p.1.now) ∷ pairs_left t
+  pairs-more p e h = let more = Zip-more s t r p e h in rw (more.0, more.1) refl
+
+module _ {A B C : Type 0} (f : A × B → C) (done all : List C) (s t : Zip (Iter A) (Iter B)) (r : Option (Bor A × Bor B)) where
+  -- what f makes of the pairs is added pair by pair
+  pub made-more : (p : Bor A × Bor B) → r ≡ Some p → zips fronts fronts s r t → done ++ map f (pairs_left s) ≡ all → (done ++ f (p.0.now, p.1.now) ∷ []) ++ map f (pairs_left t) ≡ all
+  made-more p e h so_far = append_assoc done (f (p.0.now, p.1.now) ∷ []) (map f (pairs_left t)) ∙ ap (λ ps. done ++ map f ps) (sym (pairs-more s t r p e h)) ∙ so_far
+
+  pub made-all : r ≡ None → zips fronts fronts s r t → done ++ map f (pairs_left s) ≡ all → done ≡ all
+  made-all e h so_far = sym (append-nil done) ∙ ap (λ ps. done ++ map f ps) (sym (pairs-none s t r e h)) ∙ so_far
+
+-- the first of each pair, changed before or after
+pub map-firsts : {A B C : Type 0} (f : A → C) (xs : List A) (ys : List B) → map (λ (p : A × B). (f p.0, p.1)) (zip xs ys) ≡ zip (map f xs) ys
+map-firsts f [] ys = refl
+map-firsts f (x ∷ xs) [] = refl
+map-firsts f (x ∷ xs) (y ∷ ys) = ap (λ ps. (f x, y) ∷ ps) (map-firsts f xs ys)
 
 -- ---- constants
 
