@@ -3,6 +3,7 @@ use Rattle.std.proofs.Common.{◌≡◌, ◌≢◌, ℕ, suc, ◌+◌, ◌<◌, 
 use Rattle.std.specs.Prelude.{slice_get, option_map, zip}
 use Rattle.std.specs.Cmp.Lexicographic.{pointwise}
 use Rattle.std.specs.Str.{bytes_eq}
+use Rattle.std.proofs.lemmas.Bool.{not-false, not-true}
 use Rattle.std.proofs.lemmas.List.{append-nil, drop_all, drop_more, take-map, take_more}
 use Rattle.std.proofs.lemmas.List.Sorted.{length_permutation}
 use Rattle.std.proofs.lemmas.Option.{get_or_from_slice_get, slice_get_read, slice_get_within, slice_get-map}
@@ -29,14 +30,6 @@ pub record IsComparedFrom {A B : Type 0} (E : A → B → Bool) (xs : List A) (y
 and-false : (b : Bool) → (b && false) ≡ false
 and-false true = refl
 and-false false = refl
-
-not-true : (b : Bool) → true ≡ not b → b ≡ false
-not-true true h = cc
-not-true false h = refl
-
-not-false : (b : Bool) → false ≡ not b → b ≡ true
-not-false true h = refl
-not-false false h = cc
 
 -- lists of different lengths differ
 pub differ-long : {A B : Type 0} (E : A → B → Bool) (xs : List A) (ys : List B) → length xs ≢ length ys → false ≡ pointwise E xs ys
@@ -107,7 +100,7 @@ module _ (xs ys : List Column) (i n : ℕ) (name other : List ℕ) where
   other-name h at also differ =
       let x = name-at xs i name at in
       let y = name-at ys i other also in
-      compared-stop is_same_column xs ys i n (name, x.0) (other, y.0) h x.1 y.1 (rw (not-true (bytes_eq name other) differ) refl)
+      compared-stop is_same_column xs ys i n (name, x.0) (other, y.0) h x.1 y.1 (rw (not-true (bytes_eq name other) (sym differ)) refl)
 
   pub other-kind : (k l : ValueKind) → IsComparedFrom is_same_column xs ys i n → slice_get (names_of xs) i ≡ Some name → slice_get (names_of ys) i ≡ Some other
       → option_map (λ c. c.1) (slice_get xs i) ≡ Some k → option_map (λ c. c.1) (slice_get ys i) ≡ Some l → is_same_kind k l ≡ false
@@ -119,7 +112,7 @@ module _ (xs ys : List Column) (i n : ℕ) (name other : List ℕ) where
       → option_map (λ c. c.1) (slice_get xs i) ≡ Some k → option_map (λ c. c.1) (slice_get ys i) ≡ Some l → false ≡ not (bytes_eq name other) → is_same_kind k l ≡ true
       → IsComparedFrom is_same_column xs ys (i + 1) n
   same-column k l h at also kind also_kind same alike =
-      compared-next is_same_column xs ys i n (name, k) (other, l) h (column-at xs i name k at kind) (column-at ys i other l also also_kind) (rw (not-false (bytes_eq name other) same, alike) refl)
+      compared-next is_same_column xs ys i n (name, k) (other, l) h (column-at xs i name k at kind) (column-at ys i other l also also_kind) (rw (not-false (bytes_eq name other) (sym same), alike) refl)
 
 -- one kind more
 pub kinds-more : (columns : List Column) (i : ℕ) (k : ValueKind) → option_map (λ c. c.1) (slice_get columns i) ≡ Some k
