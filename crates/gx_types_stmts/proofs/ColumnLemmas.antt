@@ -2,22 +2,24 @@
 use Rattle.std.proofs.Common.{◌≡◌, ◌≢◌, ℕ, suc, ◌+◌, ◌<◌, ◌≤◌, Bool, true, false, not, ◌&&◌, IsPermutation, Option, Some, None, ◌⊎◌, inl, inr, List, [], ◌∷◌, ◌++◌, length, map, take, drop, get_or, refl, sym, ap, subst, ◌∙◌, arith, append_assoc}
 use Rattle.std.specs.Prelude.{slice_get, option_map, zip}
 use Rattle.std.specs.Cmp.Lexicographic.{pointwise}
+use Rattle.std.specs.List.{AllByRecursion, IsDistinct}
 use Rattle.std.specs.Str.{bytes_eq}
 use Rattle.std.proofs.lemmas.Bool.{not-false, not-true}
-use Rattle.std.proofs.lemmas.List.{append-nil, drop_all, drop_more, take-map, take_more}
+use Rattle.std.proofs.lemmas.List.{append-nil, drop_all, drop_more, length-map, take-map, take_more}
 use Rattle.std.proofs.lemmas.List.Sorted.{length_permutation}
 use Rattle.std.proofs.lemmas.Option.{get_or_from_slice_get, slice_get_read, slice_get_within, slice_get-map}
 use Rattle.std.proofs.iter.Yields.{fronts}
 use Rattle.std.proofs.lemmas.Iterator.{zips}
-use Rattle.std.proofs.lemmas.Slice.Zip.{Zip-more, either_empty_from_Zip}
+use Rattle.std.proofs.lemmas.Slice.Zip.{Zip-more, either_empty_from_Zip, length-zip}
 use Rattle.std.specs.Iterator.Adapters.{zip_first, zip_second}
 use Rattle.std.specs.declared.iter.Zip.{Zip}
 use Rattle.std.specs.declared.slice.Iter.{Iter}
 use Rattle.std.specs.Slice.Iter.{iter_rest}
 use denote.Ref.{Bor}
-use Rattle.gx_rows.specs.Columns.{Column, names_of}
+use Rattle.gx_rows.specs.Columns.{Column, HasDistinctNames, names_of}
 use Rattle.gx_rows.specs.declared.value.ValueKind.{ValueKind}
 use Rattle.gx_types_stmts.specs.SameColumns.{is_same_column, is_same_kind}
+use Rattle.gx_types_stmts.specs.StmtBounds.{IsColumnList}
 
 -- ---- two lists, compared item by item
 
@@ -155,6 +157,39 @@ pub map-firsts : {A B C : Type 0} (f : A → C) (xs : List A) (ys : List B) → 
 map-firsts f [] ys = refl
 map-firsts f (x ∷ xs) [] = refl
 map-firsts f (x ∷ xs) (y ∷ ys) = ap (λ ps. (f x, y) ∷ ps) (map-firsts f xs ys)
+
+-- ---- names of columns that are made of others
+
+names-made : {A : Type 0} (name : A → List ℕ) (kind : A → ValueKind) (xs : List A) → names_of (map (λ x. (name x, kind x)) xs) ≡ map name xs
+names-made name kind [] = refl
+names-made name kind (x ∷ xs) = ap (λ ns. name x ∷ ns) (names-made name kind xs)
+
+-- columns of distinct names have distinct names
+pub made-distinct : {A : Type 0} (name : A → List ℕ) (kind : A → ValueKind) (xs : List A) (columns : List Column)
+    → columns ≡ map (λ x. (name x, kind x)) xs → IsDistinct bytes_eq (map name xs) → HasDistinctNames columns
+made-distinct name kind xs columns are distinct = subst HasDistinctNames (sym are) (subst (IsDistinct bytes_eq) (sym (names-made name kind xs)) distinct)
+
+module _ {A B : Type 0} (name : A → List ℕ) (kind : A × B → ValueKind) where
+  abbrev pub paired_columns : List A → List B → List Column
+  paired_columns xs ys = map (λ p. (name p.0, kind p)) (zip xs ys)
+
+  paired-apart : (n : List ℕ) (xs : List A) (ys : List B) → AllByRecursion (λ m. bytes_eq n m ≡ false) (map name xs) → AllByRecursion (λ m. bytes_eq n m ≡ false) (names_of (paired_columns xs ys))
+  paired-apart n [] ys h = tt
+  paired-apart n (x ∷ xs) [] h = tt
+  paired-apart n (x ∷ xs) (y ∷ ys) h = (h.0, paired-apart n xs ys h.1)
+
+  paired-distinct : (xs : List A) (ys : List B) → IsDistinct bytes_eq (map name xs) → HasDistinctNames (paired_columns xs ys)
+  unfolding IsDistinct
+  paired-distinct [] ys h = tt
+  paired-distinct (x ∷ xs) [] h = tt
+  paired-distinct (x ∷ xs) (y ∷ ys) h = (paired-apart (name x) xs ys h.0, paired-distinct xs ys h.1)
+
+  -- the same of columns whose kinds come from a second list
+  pub made-paired : (xs : List A) (ys : List B) (columns : List Column) → columns ≡ paired_columns xs ys → IsColumnList (map name xs) → (length columns ≤ 16) × HasDistinctNames columns
+  made-paired xs ys columns are h = (
+    omega (arith, ap length are, length-map {B = Column} (zip xs ys) (λ (p : A × B). (name p.0, kind p)), length-zip xs ys, length-map xs name, h.few),
+    subst HasDistinctNames (sym are) (paired-distinct xs ys h.distinct),
+  )
 
 -- ---- constants
 
