@@ -10,7 +10,7 @@ use Rattle.std.proofs.lemmas.List.Sorted.{length_permutation}
 use Rattle.std.proofs.lemmas.Option.{get_or_from_slice_get, slice_get_read, slice_get_within, slice_get-map}
 use Rattle.std.proofs.iter.Yields.{fronts}
 use Rattle.std.proofs.lemmas.Iterator.{zips}
-use Rattle.std.proofs.lemmas.Slice.Zip.{Zip-more, either_empty_from_Zip, length-zip}
+use Rattle.std.proofs.lemmas.Slice.Zip.{either_empty_from_Zip, length-zip}
 use Rattle.std.specs.Iterator.Adapters.{zip_first, zip_second}
 use Rattle.std.specs.declared.iter.Zip.{Zip}
 use Rattle.std.specs.declared.slice.Iter.{Iter}
@@ -33,21 +33,11 @@ and-false : (b : Bool) → (b && false) ≡ false
 and-false true = refl
 and-false false = refl
 
--- lists of different lengths differ
-pub differ-long : {A B : Type 0} (E : A → B → Bool) (xs : List A) (ys : List B) → length xs ≢ length ys → false ≡ pointwise E xs ys
-differ-long E [] [] h = absurd (h refl)
-differ-long E [] (y ∷ ys) h = refl
-differ-long E (x ∷ xs) [] h = refl
-differ-long E (x ∷ xs) (y ∷ ys) h = sym (and-false (E x y)) ∙ ap (λ b. E x y && b) (differ-long E xs ys (λ e. h (ap suc e)))
-
 -- the rest begins with the item at i
-pub rest-at : {A : Type 0} (xs : List A) (i : ℕ) (x : A) → slice_get xs i ≡ Some x → drop i xs ≡ x ∷ drop (i + 1) xs
+rest-at : {A : Type 0} (xs : List A) (i : ℕ) (x : A) → slice_get xs i ≡ Some x → drop i xs ≡ x ∷ drop (i + 1) xs
 rest-at xs i x is = drop_more xs i x (slice_get_within xs i x is) ∙ ap (λ y. y ∷ drop (i + 1) xs) (get_or_from_slice_get xs i x x is)
 
 module _ {A B : Type 0} (E : A → B → Bool) (xs : List A) (ys : List B) (i n : ℕ) where
-  pub compared-none : n ≡ length xs → n ≡ length ys → IsComparedFrom E xs ys 0 n
-  compared-none l r = record { left_long = l; right_long = r; so_far = refl }
-
   rest-both : (x : A) (y : B) → IsComparedFrom E xs ys i n → slice_get xs i ≡ Some x → slice_get ys i ≡ Some y
       → (E x y && pointwise E (drop (i + 1) xs) (drop (i + 1) ys)) ≡ pointwise E xs ys
   rest-both x y h at also =
@@ -63,11 +53,6 @@ module _ {A B : Type 0} (E : A → B → Bool) (xs : List A) (ys : List B) (i n 
 
   pub compared-stop : (x : A) (y : B) → IsComparedFrom E xs ys i n → slice_get xs i ≡ Some x → slice_get ys i ≡ Some y → E x y ≡ false → false ≡ pointwise E xs ys
   compared-stop x y h at also other = ap (λ b. b && pointwise E (drop (i + 1) xs) (drop (i + 1) ys)) (sym other) ∙ rest-both x y h at also
-
-  pub compared-all : n ≤ i → IsComparedFrom E xs ys i n → true ≡ pointwise E xs ys
-  compared-all past h =
-      subst (λ zs. pointwise E zs [] ≡ pointwise E xs ys) (drop_all i xs (omega (arith, h.left_long)))
-      (subst (λ zs. pointwise E (drop i xs) zs ≡ pointwise E xs ys) (drop_all i ys (omega (arith, h.right_long))) h.so_far)
 
 -- the item at i, in a list of what f makes of each
 pub mapped-at : {A B : Type 0} (f : A → B) (xs : List A) (i : ℕ) (x : A) (y : B) → i < length xs → x ≡ get_or xs i x → y ≡ f x → slice_get (map f xs) i ≡ Some y
@@ -137,20 +122,17 @@ zip-none (x ∷ xs) [] e = refl
 zip-none (x ∷ xs) (y ∷ ys) (inl e) = cc
 zip-none (x ∷ xs) (y ∷ ys) (inr e) = cc
 
-module _ {A B : Type 0} (s t : Zip (Iter A) (Iter B)) (r : Option (Bor A × Bor B)) where
-  pub pairs-none : r ≡ None → zips fronts fronts s r t → pairs_left s ≡ []
-  pairs-none e h = zip-none (iter_rest (zip_first s)) (iter_rest (zip_second s)) (either_empty_from_Zip s t r e h)
+pub pairs-none : {A B : Type 0} (s t : Zip (Iter A) (Iter B)) (r : Option (Bor A × Bor B))
+    → r ≡ None → zips fronts fronts s r t → pairs_left s ≡ []
+pairs-none s t r e h =
+    zip-none (iter_rest (zip_first s)) (iter_rest (zip_second s)) (either_empty_from_Zip s t r e h)
 
-  pub pairs-more : (p : Bor A × Bor B) → r ≡ Some p → zips fronts fronts s r t → pairs_left s ≡ (p.0.now, p.1.now) ∷ pairs_left t
-  pairs-more p e h = let more = Zip-more s t r p e h in rw (more.0, more.1) refl
-
-module _ {A B C : Type 0} (f : A × B → C) (done all : List C) (s t : Zip (Iter A) (Iter B)) (r : Option (Bor A × Bor B)) where
-  -- what f makes of the pairs is added pair by pair
-  pub made-more : (p : Bor A × Bor B) → r ≡ Some p → zips fronts fronts s r t → done ++ map f (pairs_left s) ≡ all → (done ++ f (p.0.now, p.1.now) ∷ []) ++ map f (pairs_left t) ≡ all
-  made-more p e h so_far = append_assoc done (f (p.0.now, p.1.now) ∷ []) (map f (pairs_left t)) ∙ ap (λ ps. done ++ map f ps) (sym (pairs-more s t r p e h)) ∙ so_far
-
-  pub made-all : r ≡ None → zips fronts fronts s r t → done ++ map f (pairs_left s) ≡ all → done ≡ all
-  made-all e h so_far = sym (append-nil done) ∙ ap (λ ps. done ++ map f ps) (sym (pairs-none s t r e h)) ∙ so_far
+-- what f makes of all pairs is made
+pub made-all : {A B C : Type 0} (f : A × B → C) (done all : List C) (s t : Zip (Iter A) (Iter B))
+    (r : Option (Bor A × Bor B))
+    → r ≡ None → zips fronts fronts s r t → done ++ map f (pairs_left s) ≡ all → done ≡ all
+made-all f done all s t r e h so_far =
+    sym (append-nil done) ∙ ap (λ ps. done ++ map f ps) (sym (pairs-none s t r e h)) ∙ so_far
 
 -- the first of each pair, changed before or after
 pub map-firsts : {A B C : Type 0} (f : A → C) (xs : List A) (ys : List B) → map (λ (p : A × B). (f p.0, p.1)) (zip xs ys) ≡ zip (map f xs) ys
