@@ -1,6 +1,7 @@
-mod ValueWalk
+mod BoundLemmas
+mod ColumnLemmas
+mod ColumnNames
 mod Conversions
 mod NodeCounts
-mod BoundLemmas
 mod SendWalk
-mod ColumnNames
+mod ValueWalk
