@@ -1,8 +1,7 @@
 -- Names of columns, walked by position.
-use Rattle.std.proofs.Common.{◌≡◌, ℕ, ◌+◌, ◌<◌, ◌≤◌, Bool, true, false, ◌||◌, cond, List, [], ◌∷◌, ◌++◌, length, get_or, take, drop, Option, Some, Result, Ok, Err, refl, sym, ap, ◌∙◌, arith, add-one, slice_get, drop-cons}
+use Rattle.std.proofs.Common.{◌≡◌, ℕ, ◌+◌, ◌<◌, ◌≤◌, Bool, true, false, ◌||◌, List, [], ◌∷◌, ◌++◌, length, get_or, take, drop, Some, Result, Ok, refl, ◌∙◌, add-one, slice_get, drop-cons}
 use Rattle.gx_rows.specs.Results.{◌>>=◌}
 use Rattle.gx_types_stmts.specs.ColumnLists.{checked_name, checked_names, is_reserved}
-use Rattle.gx_types_stmts.specs.declared.stmt_stop.StmtStop.{StmtStop}
 use Rattle.std.proofs.lemmas.Grind.{take_at_read}
 use Rattle.std.proofs.lemmas.List.{get_or-take, length-take-le}
 use Rattle.std.proofs.lemmas.List.Folds.{list_any_at, list_any_more}
@@ -34,11 +33,6 @@ pub checked_names-more : (names : List (List ℕ)) (i : ℕ) → i < length name
     → checked_name (take i names) (get_or names i []) ≡ Ok tt
     → checked_names (take i names) (drop i names) ≡ checked_names (take (i + 1) names) (drop (i + 1) names)
 checked_names-more names i within passed = checked_names-next names i within ∙ rw passed refl
-
-pub checked_names-stop : (names : List (List ℕ)) (i : ℕ) (stop : StmtStop) → i < length names
-    → checked_name (take i names) (get_or names i []) ≡ Err stop
-    → checked_names (take i names) (drop i names) ≡ Err stop
-checked_names-stop names i stop within refused = checked_names-next names i within ∙ rw refused refl
 
 -- a name that passed differs from those before it
 checked_name-new : (before : List (List ℕ)) (name : List ℕ)
