@@ -1,5 +1,5 @@
 -- Names of columns, walked by position.
-use Rattle.std.proofs.Common.{◌≡◌, ℕ, ◌+◌, ◌<◌, ◌≤◌, Bool, true, false, ◌||◌, List, [], ◌∷◌, ◌++◌, length, get_or, take, drop, Some, Result, Ok, refl, ◌∙◌, add-one, slice_get, drop-cons}
+use Rattle.std.proofs.Common.{◌≡◌, ℕ, ◌+◌, ◌<◌, ◌≤◌, Bool, true, false, List, [], ◌∷◌, ◌++◌, length, get_or, take, drop, Some, Ok, refl, ◌∙◌, add-one, slice_get, drop-cons}
 use Rattle.gx_rows.specs.Results.{◌>>=◌}
 use Rattle.gx_types_stmts.specs.ColumnLists.{checked_name, checked_names, is_reserved}
 use Rattle.std.proofs.lemmas.Grind.{take_at_read}

@@ -1,4 +1,4 @@
-use Rattle.std.proofs.Common.{◌<◌, length, refl, sym, ◌∙◌, arith}
+use Rattle.std.proofs.Common.{◌<◌, length, refl, ◌∙◌, arith}
 use Rattle.std.specs.List.{IsDistinct}
 use Rattle.gx_types_stmts.specs.NamedParts.{list_names}
 use Rattle.gx_types_stmts.proofs.LimitLemmas.{IsDistinct-passed, checked_names-more}

@@ -1,4 +1,4 @@
-use Rattle.std.proofs.Common.{sym, arith}
+use Rattle.std.proofs.Common.{sym}
 use Rattle.gx_types_stmts.specs.NamedParts.{list_names}
 use Rattle.gx_types_stmts.proofs.LimitLemmas.{list_any-take_hit, list_any-take_miss}
 use Rattle.gx_types_stmts.proofs.limits.is_among_first.Goals as goal
