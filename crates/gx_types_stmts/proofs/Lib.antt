@@ -2,6 +2,8 @@ mod BoundLemmas
 mod ColumnLemmas
 mod ColumnNames
 mod Conversions
+mod KnownLemmas
+mod LimitLemmas
 mod NodeCounts
 mod SendWalk
 mod ValueWalk

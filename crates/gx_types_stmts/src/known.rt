@@ -87,14 +87,28 @@ impl Known {
         ensures unchanged { OnErr result (self.new ≡ self.old) }
     {
         let parts = parts_of(stmt);
-        if let Some(name) = parts.name {
-            let name = String::from_str(alloc, name)?;
-            let number = self.len + 1;
-            let made = typed.made.copy()?;
-            self.names.insert(name, Definition { number, made })?;
-        }
-        self.len += 1;
+        self.define(alloc, parts.name, &typed.made)?;
         self.rounds += rounds_of(parts.rounds) as u32;
+        Ok(())
+    }
+
+    // Counts a statement that makes this, under a new name or under none.
+    fn define(&mut self, alloc: Global, name: Option<&str>, made: &Made) -> Result<(), NoMemory>
+        requires few { self.old.count < 1000 }
+        requires free { names.free_name self.old (option_map (λ s. s.now) name) ≡ Ok tt }
+        ensures added { OnOk result (self.new
+            ≡ names.context_after self.old (option_map (λ s. s.now) name.entry) 0 made.now) }
+        ensures unchanged { OnErr result (self.new ≡ self.old) }
+    {
+        let number = self.len + 1;
+        let Some(name) = name else {
+            self.len = number;
+            return Ok(());
+        };
+        let name = String::from_str(alloc, name)?;
+        let made = made.copy()?;
+        self.names.insert(name, Definition { number, made })?;
+        self.len = number;
         Ok(())
     }
 
