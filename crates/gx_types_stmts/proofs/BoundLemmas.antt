@@ -33,3 +33,6 @@ joined_counted xs ys = ap sum (map-append node_count xs ys) ∙ sum_by-append (�
 -- nothing after them
 pub whole_typable : (xs : List Expr) → AreTypable (xs ++ []) → AreTypable xs
 whole_typable xs h = subst AreTypable (append-nil xs) h
+
+pub left_typable : (xs ys : List Expr) → AreTypable (xs ++ ys) → AreTypable xs
+left_typable xs ys h = record { few_nodes = omega (arith, h.few_nodes, joined_counted xs ys); short_texts = left_short xs ys h.short_texts }

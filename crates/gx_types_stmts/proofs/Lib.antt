@@ -5,5 +5,6 @@ mod Conversions
 mod KnownLemmas
 mod LimitLemmas
 mod NodeCounts
+mod PartBounds
 mod SendWalk
 mod ValueWalk

@@ -29,7 +29,7 @@ pub(crate) struct TypedSets {
 /// # Errors
 ///
 /// The first check that fails; a depth of more than 64; `NoMemory` if memory runs out.
-#[tactic(auto, using(crate::proofs::ColumnNames::columns_distinct, crate::proofs::ColumnNames::columns_few))]
+#[tactic(auto, using(crate::proofs::ColumnNames::columns_distinct))]
 pub(crate) fn type_sets(
     alloc: Global,
     sets: &Items<ColumnExpr>,
