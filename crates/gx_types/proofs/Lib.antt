@@ -3,3 +3,4 @@ mod ScriptWalk
 mod UseLemmas
 mod MarkLemmas
 mod NeedLemmas
+mod BoundedScripts
