@@ -1,8 +1,11 @@
 //! Helpers of the tests: texts to outcomes, and the tables' loops.
 
+ghost use Rattle.std.specs.Prelude.{All, IfSome};
+ghost use Rattle.gx_types_stmts.specs.StmtBounds.{IsTypable};
+
 use gx_rows::NoMemory;
-use gx_syntax::{Script, parse};
-use gx_types::{TypeStop, Typed, check};
+use gx_syntax::{Script, parse, parsed_scripts_are_bounded, texts_have_one_meaning};
+use gx_types::{TypeStop, Typed, check, parsed_scripts_are_typable};
 use std::alloc::Global;
 use std::process::Abort;
 use std::test::Fail;
@@ -13,7 +16,13 @@ pub(super) const PRELUDE: &str = "vertices s from \"f\" (a: int, t: text, b: boo
 vertices u from \"f\" (c: int, d: text, x: bool, y: ids); edges e from \"f\" (w: int, x: text);\
 graph g = s, e default (0, \"\", true, ids());";
 
-fn script_of(alloc: Global, text: &str) -> Option<Script> {
+// The script of a text; none if it spells none, or if it is very long.
+fn script_of(alloc: Global, text: &str) -> Option<Script>
+    ensures { IfSome result (λ script. All IsTypable script.statements) }
+{
+    texts_have_one_meaning();
+    parsed_scripts_are_bounded();
+    parsed_scripts_are_typable();
     if text.len() > 1_000_000 {
         return None;
     }
