@@ -13,8 +13,8 @@ use Rattle.gx_types_stmts.specs.declared.stmt_stop.StmtStop.{StmtStop}
 use Rattle.gx_types_stmts.specs.declared.stmt_stop.StmtStop.TheVariants as stop
 
 -- a number is within its limit
-abbrev pub within_limit : LimitKind → ℕ → Result (Unit {0}) StmtStop
-within_limit l n = if nat_le n (most_of l) then Ok tt else Err (stop.Limit l)
+abbrev pub checked_limit : LimitKind → ℕ → Result (Unit {0}) StmtStop
+checked_limit l n = if nat_le n (most_of l) then Ok tt else Err (stop.Limit l)
 
 -- ---- names
 
@@ -35,7 +35,7 @@ checked_names before (name ∷ rest) = checked_name before name >>= λ _. checke
 
 -- a list of columns: their number, and then name by name
 abbrev pub checked_columns : List (List ℕ) → Result (Unit {0}) StmtStop
-checked_columns names = within_limit limit.Columns (length names) >>= λ _. checked_names [] names
+checked_columns names = checked_limit limit.Columns (length names) >>= λ _. checked_names [] names
 
 -- ---- rounds
 
@@ -46,14 +46,14 @@ rounds_of (negsuc n) = 0
 
 -- rounds, after those of the statements before
 abbrev pub checked_rounds : ℕ → ℕ → Result (Unit {0}) StmtStop
-checked_rounds before rounds = within_limit limit.Rounds rounds >>= λ _. within_limit limit.AllRounds (before + rounds)
+checked_rounds before rounds = checked_limit limit.Rounds rounds >>= λ _. checked_limit limit.AllRounds (before + rounds)
 
 -- ---- all of a statement: its lists in text order, its sends, its rounds
 
 abbrev pub checked_lists : ℕ → NamedParts → Result (Unit {0}) StmtStop
 checked_lists rounds p =
     checked_columns p.columns >>= λ _. checked_columns p.program >>= λ _.
-    within_limit limit.Sends p.sends >>= λ _. checked_rounds rounds (rounds_of p.rounds)
+    checked_limit limit.Sends p.sends >>= λ _. checked_rounds rounds (rounds_of p.rounds)
 
 -- `(a, a, id)` repeats a name before it has one that is not allowed
 names-in_order :

@@ -32,11 +32,11 @@ checked_same_kinds xs ys =
     if pointwise is_same_kind (kinds_in xs) (kinds_in ys) then Ok tt else stmt_refusal type_kind.ColumnsDiffer
 
 -- `(a: int)` and `(b: int)` have the same kinds and not the same columns
-one_column : List Column × List Column
-one_column = ((codes "a", kind.Int) ∷ [], (codes "b", kind.Int) ∷ [])
+two_columns : List Column × List Column
+two_columns = ((codes "a", kind.Int) ∷ [], (codes "b", kind.Int) ∷ [])
 
 columns-differ :
-    (checked_same_columns one_column.0 one_column.1 ≡ stmt_refusal type_kind.ColumnsDiffer)
-    × (checked_same_kinds one_column.0 one_column.1 ≡ Ok tt)
-unfolding one_column
+    (checked_same_columns two_columns.0 two_columns.1 ≡ stmt_refusal type_kind.ColumnsDiffer)
+    × (checked_same_kinds two_columns.0 two_columns.1 ≡ Ok tt)
+unfolding two_columns
 columns-differ = (refl, refl)

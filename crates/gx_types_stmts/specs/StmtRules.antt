@@ -32,8 +32,8 @@ use Rattle.gx_types_stmts.specs.declared.typed_stmt.TypedStmt.TheVariants as typ
 abbrev pub declared_columns : List ColumnDecl → List Column
 declared_columns columns = map (λ c. (c.name, c.kind)) columns
 
-abbrev pub one_column : List ℕ → ValueKind → List Column
-one_column name k = (name, k) ∷ []
+abbrev pub lone_column : List ℕ → ValueKind → List Column
+lone_column name k = (name, k) ∷ []
 
 abbrev pub loaded_vertices : List ℕ → List ColumnDecl → TypedBody
 loaded_vertices file columns = table_stmt (typed.Vertices file) (declared_columns columns)
@@ -42,7 +42,7 @@ abbrev pub loaded_edges : List ℕ → List ColumnDecl → TypedBody
 loaded_edges file columns = edges_stmt (typed.Edges file) (declared_columns columns)
 
 abbrev pub loaded_edge_list : List ℕ → Bool → TypedBody
-loaded_edge_list file oriented = edges_stmt (typed.EdgeList file oriented) (one_column (codes "value") kind.Int)
+loaded_edge_list file oriented = edges_stmt (typed.EdgeList file oriented) (lone_column (codes "value") kind.Int)
 
 -- ---- graphs
 
@@ -72,16 +72,16 @@ grouped_graph g merges = grouped_columns merges g.edges >>= λ edges.
 
 -- ---- maps
 
-abbrev pub mapped_vertices : OperandTypes → List ColumnExpr → Result TypedBody StmtStop
-mapped_vertices g sets = typed_sets (vertex_scope g.vertices) sets >>= λ s.
+abbrev pub mapped_vertices_stmt : OperandTypes → List ColumnExpr → Result TypedBody StmtStop
+mapped_vertices_stmt g sets = typed_sets (vertex_scope g.vertices) sets >>= λ s.
     Ok (graph_stmt (typed.MapVertices g.number s.exprs) s.columns g.edges)
 
-abbrev pub mapped_edges : OperandTypes → List ColumnExpr → Result TypedBody StmtStop
-mapped_edges g sets = typed_sets (edge_scope g.edges) sets >>= λ s.
+abbrev pub mapped_edges_stmt : OperandTypes → List ColumnExpr → Result TypedBody StmtStop
+mapped_edges_stmt g sets = typed_sets (edge_scope g.edges) sets >>= λ s.
     Ok (graph_stmt (typed.MapEdges g.number s.exprs) g.vertices s.columns)
 
-abbrev pub mapped_triplets : OperandTypes → List ColumnExpr → Result TypedBody StmtStop
-mapped_triplets g sets = typed_sets (triplet_scope g.vertices g.edges) sets >>= λ s.
+abbrev pub mapped_triplets_stmt : OperandTypes → List ColumnExpr → Result TypedBody StmtStop
+mapped_triplets_stmt g sets = typed_sets (triplet_scope g.vertices g.edges) sets >>= λ s.
     Ok (graph_stmt (typed.MapTriplets g.number s.exprs) g.vertices s.columns)
 
 -- ---- joins

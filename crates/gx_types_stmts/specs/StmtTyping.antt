@@ -12,7 +12,7 @@ use Rattle.gx_types_stmts.specs.KnownNames.{Context, context_after, free_name, u
 use Rattle.gx_types_stmts.specs.Makes.{OperandTypes, action_stmt, table_made, example_table}
 use Rattle.gx_types_stmts.specs.NamedParts.{named_parts}
 use Rattle.gx_types_stmts.specs.ShortForms.{degree_table, neighbour_table}
-use Rattle.gx_types_stmts.specs.StmtRules.{loaded_vertices, loaded_edges, loaded_edge_list, same_graph, built_graph, graph_of_edges, tested_graph, grouped_graph, mapped_vertices, mapped_edges, mapped_triplets, joined_vertices, outer_joined_graph, aggregated_table, iterated_graph, filtered_table, mapped_table, subtracted_table, compared_table, joined_table, left_joined_table}
+use Rattle.gx_types_stmts.specs.StmtRules.{loaded_vertices, loaded_edges, loaded_edge_list, same_graph, built_graph, graph_of_edges, tested_graph, grouped_graph, mapped_vertices_stmt, mapped_edges_stmt, mapped_triplets_stmt, joined_vertices, outer_joined_graph, aggregated_table, iterated_graph, filtered_table, mapped_table, subtracted_table, compared_table, joined_table, left_joined_table}
 use Rattle.gx_types_stmts.specs.StmtStops.{stmt_refusal}
 use Rattle.gx_types_stmts.specs.StmtWords.{cut_of_written}
 use Rattle.gx_types_stmts.specs.declared.checked_stmt.CheckedStmt.{CheckedStmt}
@@ -34,9 +34,9 @@ typed_body a b (stmts.Mask name g by) = Ok (same_graph (typed.Mask a.number b.nu
 typed_body a b (stmts.Subgraph name g vs es) = tested_graph a vs es
 typed_body a b (stmts.GroupEdges name g ms) = grouped_graph a ms
 typed_body a b (stmts.Partition name g cut) = Ok (same_graph (typed.Partition a.number (cut_of_written cut)) a)
-typed_body a b (stmts.MapVertices name g ss) = mapped_vertices a ss
-typed_body a b (stmts.MapEdges name g ss) = mapped_edges a ss
-typed_body a b (stmts.MapTriplets name g ss) = mapped_triplets a ss
+typed_body a b (stmts.MapVertices name g ss) = mapped_vertices_stmt a ss
+typed_body a b (stmts.MapEdges name g ss) = mapped_edges_stmt a ss
+typed_body a b (stmts.MapTriplets name g ss) = mapped_triplets_stmt a ss
 typed_body a b (stmts.JoinVertices name g t ss) = joined_vertices a b ss
 typed_body a b (stmts.OuterJoin name g t default ss) = outer_joined_graph a b default ss
 typed_body a b (stmts.Aggregate name g cs ms) = aggregated_table a cs ms

@@ -59,7 +59,7 @@ pub(crate) fn type_edge_list(
 ) -> Result<TypedBody, NoMemory>
     ensures { IfOk result (λ s. s ≡ rules.loaded_edge_list file.now oriented) }
 {
-    let edges = one_column(alloc, "value", ValueKind::Int)?;
+    let edges = lone_column(alloc, "value", ValueKind::Int)?;
     let file = file.copy()?;
     let stmt = TypedStmt::EdgeList { file, oriented };
     Ok(TypedBody::edges(stmt, edges))
@@ -70,8 +70,12 @@ pub(crate) fn type_edge_list(
 /// # Errors
 ///
 /// `NoMemory` if memory runs out.
-pub(crate) fn one_column(alloc: Global, name: &str, kind: ValueKind) -> Result<SharedType, NoMemory>
-    ensures { IfOk result (λ t. t ≡ rules.one_column name.now kind) }
+pub(crate) fn lone_column(
+    alloc: Global,
+    name: &str,
+    kind: ValueKind,
+) -> Result<SharedType, NoMemory>
+    ensures { IfOk result (λ t. t ≡ rules.lone_column name.now kind) }
 {
     let mut columns = Vec::new(alloc);
     columns.push((Text::of(alloc, name)?, kind))?;

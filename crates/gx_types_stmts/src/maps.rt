@@ -26,7 +26,7 @@ pub(crate) fn type_map_vertices(
     sets: &Items<ColumnExpr>,
 ) -> Result<TypedBody, StmtStop>
     requires { AreTypableSets sets.now }
-    ensures { StmtReturns result (rules.mapped_vertices (operand_types graph.now) sets.now) }
+    ensures { StmtReturns result (rules.mapped_vertices_stmt (operand_types graph.now) sets.now) }
 {
     let sets = type_sets(alloc, sets, &ExprScope::Vertex(graph.vertices.get()))?;
     let stmt = TypedStmt::MapVertices {
@@ -47,7 +47,7 @@ pub(crate) fn type_map_edges(
     sets: &Items<ColumnExpr>,
 ) -> Result<TypedBody, StmtStop>
     requires { AreTypableSets sets.now }
-    ensures { StmtReturns result (rules.mapped_edges (operand_types graph.now) sets.now) }
+    ensures { StmtReturns result (rules.mapped_edges_stmt (operand_types graph.now) sets.now) }
 {
     let sets = type_sets(alloc, sets, &ExprScope::Edge(graph.edges.get()))?;
     let stmt = TypedStmt::MapEdges {
@@ -69,7 +69,7 @@ pub(crate) fn type_map_triplets(
     sets: &Items<ColumnExpr>,
 ) -> Result<TypedBody, StmtStop>
     requires { AreTypableSets sets.now }
-    ensures { StmtReturns result (rules.mapped_triplets (operand_types graph.now) sets.now) }
+    ensures { StmtReturns result (rules.mapped_triplets_stmt (operand_types graph.now) sets.now) }
 {
     let scope = ExprScope::Triplet(graph.vertices.get(), graph.edges.get());
     let sets = type_sets(alloc, sets, &scope)?;

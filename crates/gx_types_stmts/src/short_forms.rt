@@ -4,7 +4,7 @@ ghost use Rattle.std.specs.Prelude.{◌≡◌, IfOk};
 ghost use Rattle.gx_types_stmts.specs.Makes.{operand_types};
 ghost use Rattle.gx_types_stmts.specs.ShortForms as short_forms;
 
-use crate::loads::one_column;
+use crate::loads::lone_column;
 use crate::operand::Operand;
 use crate::typed_body::TypedBody;
 use crate::{EdgeEnd, TypedSend, TypedStmt};
@@ -39,7 +39,7 @@ pub(crate) fn type_degrees(
 {
     let sends = sends_along(alloc, Content::One, direction)?;
     let stmt = merged(alloc, graph, sends, MergeKind::Sum)?;
-    let degree = one_column(alloc, "degree", ValueKind::Int)?;
+    let degree = lone_column(alloc, "degree", ValueKind::Int)?;
     Ok(TypedBody::table(stmt, degree))
 }
 
@@ -58,7 +58,7 @@ pub(crate) fn type_neighbours(
 {
     let sends = sends_along(alloc, Content::Neighbour, direction)?;
     let stmt = merged(alloc, graph, sends, MergeKind::Bag)?;
-    let ids = one_column(alloc, "ids", ValueKind::Ids)?;
+    let ids = lone_column(alloc, "ids", ValueKind::Ids)?;
     Ok(TypedBody::table(stmt, ids))
 }
 

@@ -1,6 +1,6 @@
 use Rattle.std.proofs.Common.{rules}
 use Rattle.std.specs.List.{IsDistinct}
-use Rattle.gx_types_stmts.proofs.loads.one_column.Goals as goal
+use Rattle.gx_types_stmts.proofs.loads.lone_column.Goals as goal
 
 pub of-requires-2-clause-distinct : goal.of-requires-2-clause-distinct
 unfolding IsDistinct
