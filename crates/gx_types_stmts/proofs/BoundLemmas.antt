@@ -1,5 +1,5 @@
 -- Parts of what is typable are typable.
-use Rattle.std.proofs.Common.{◌≡◌, ℕ, ◌+◌, ◌<◌, ◌≤◌, ◌^◌, ◌∙◌, All, List, [], ◌∷◌, ◌++◌, length, map, take, drop, lit<, subst, sym, ap, arith}
+use Rattle.std.proofs.Common.{◌≡◌, ◌+◌, ◌∙◌, All, List, [], ◌∷◌, ◌++◌, length, map, take, drop, lit<, subst, ap, arith}
 use Rattle.std.specs.Prelude.{sum}
 use Rattle.std.proofs.lemmas.List.{append-nil, map-append, take-append-le, drop-append-le, take_all, drop_all}
 use Rattle.std.proofs.lemmas.List.Elements.{All-drop, All-take}

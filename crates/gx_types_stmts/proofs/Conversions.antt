@@ -1,6 +1,6 @@
 -- A refused expression refuses its statement.
-use Rattle.std.proofs.Common.{◌≡◌, Result, Ok, Err, refl, subst, sym, ◌∙◌}
-use Rattle.std.specs.Prelude.{IsErrAnd, ⊤}
+use Rattle.std.proofs.Common.{◌≡◌, Result, Ok, Err, subst, sym}
+use Rattle.std.specs.Prelude.{IsErrAnd}
 use Rattle.gx_types_exprs.specs.Returns.{Returns}
 use Rattle.gx_types_exprs.specs.declared.expr_stop.ExprStop.{ExprStop}
 use Rattle.gx_types_exprs.specs.declared.expr_stop.ExprStop.TheVariants as expr_stop

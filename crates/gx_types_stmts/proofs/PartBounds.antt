@@ -1,5 +1,5 @@
 -- The parts of a statement that may be checked may be checked.
-use Rattle.std.proofs.Common.{◌≡◌, List, [], ◌∷◌, ◌++◌, map, refl, sym, ap, subst, ◌∙◌}
+use Rattle.std.proofs.Common.{◌≡◌, List, [], ◌++◌, map, ap, subst, ◌∙◌}
 use Rattle.std.proofs.lemmas.List.{append-nil}
 use Rattle.gx_syntax_tree.specs.Bounds.{exprs_in_stmt}
 use Rattle.gx_syntax_tree.specs.declared.expr.Expr.{Expr}

@@ -16,7 +16,6 @@ use Rattle.gx_types_exprs.specs.declared.typed_expr.TypedExpr.{TypedExpr}
 use Rattle.gx_types_stmts.specs.StmtBounds.{HasShortTexts}
 use Rattle.gx_types_stmts.specs.StmtStops.{of_expr, stop_of_expr}
 use Rattle.gx_types_stmts.specs.ValueTyping.{column_values, expr_typing, typed_values, values_record}
-use Rattle.gx_types_stmts.specs.declared.stmt_stop.StmtStop.{StmtStop}
 use Rattle.gx_types_stmts.specs.declared.values.TypedValues.{TypedValues}
 
 -- expressions that are checked already, before those of the rest

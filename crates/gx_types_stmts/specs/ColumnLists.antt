@@ -1,5 +1,5 @@
 -- Check 3: names of columns, and what is counted.
-use Rattle.std.specs.Prelude.{◌≡◌, ℕ, ℤ, pos, negsuc, ◌+◌, Bool, ◌||◌, if◌then◌else◌, nat_le, Option, None, Some, Result, Ok, Err, List, [], ◌∷◌, ◌++◌, length, take, codes, refl}
+use Rattle.std.specs.Prelude.{◌≡◌, ℕ, ℤ, pos, negsuc, ◌+◌, Bool, ◌||◌, if◌then◌else◌, nat_le, Result, Ok, Err, List, [], ◌∷◌, ◌++◌, length, codes, refl}
 use Rattle.std.specs.List.{list_any}
 use Rattle.std.specs.Str.{bytes_eq}
 use Rattle.gx_rows.specs.Limits.{most_of}

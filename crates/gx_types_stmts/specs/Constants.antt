@@ -1,5 +1,5 @@
 -- Check 6: rows of constants.
-use Rattle.std.specs.Prelude.{◌≡◌, ℕ, pos, if◌then◌else◌, nat_eq, Result, Ok, Err, List, [], ◌∷◌, length, map, codes, refl}
+use Rattle.std.specs.Prelude.{◌≡◌, pos, if◌then◌else◌, nat_eq, Result, Ok, List, [], ◌∷◌, length, map, codes, refl}
 use Rattle.std.specs.Cmp.Lexicographic.{pointwise}
 use Rattle.gx_rows.specs.Columns.{Column}
 use Rattle.gx_rows.specs.declared.value.Value.{Value}

@@ -1,5 +1,5 @@
 -- What a statement makes, and what a statement reads of what others made.
-use Rattle.std.specs.Prelude.{◌≡◌, ℕ, Bool, true, false, ◌&&◌, Option, None, Some, List, [], ◌∷◌, is_some, is_none, unwrap_or, codes, refl}
+use Rattle.std.specs.Prelude.{◌≡◌, ℕ, Bool, true, false, ◌&&◌, None, Some, List, [], ◌∷◌, is_some, is_none, unwrap_or, codes, refl}
 use Rattle.gx_rows.specs.Columns.{Column}
 use Rattle.gx_rows.specs.declared.value.ValueKind.TheVariants as kind
 use Rattle.gx_types_stmts.specs.declared.typed_body.TypedBody.{TypedBody}

@@ -1,5 +1,5 @@
 -- Check 5: merges of sent values, and of the columns of edges.
-use Rattle.std.specs.Prelude.{◌≡◌, ℕ, Bool, ◌&&◌, if◌then◌else◌, nat_eq, Option, None, Some, Result, Ok, Err, List, [], ◌∷◌, length, map, zip, codes, refl}
+use Rattle.std.specs.Prelude.{◌≡◌, ℕ, Bool, ◌&&◌, if◌then◌else◌, nat_eq, Result, Ok, List, [], ◌∷◌, length, map, zip, codes, refl}
 use Rattle.std.specs.Cmp.Lexicographic.{pointwise}
 use Rattle.std.specs.List.{list_all}
 use Rattle.std.specs.Str.{bytes_eq}

@@ -2,7 +2,7 @@
 -- look at.
 --
 -- To add a statement, add its line in `named_parts` and its arm in src/stmt_parts.rt.
-use Rattle.std.specs.Prelude.{◌≡◌, ℕ, ℤ, pos, Option, None, Some, List, [], ◌∷◌, length, map, option_map, codes, refl}
+use Rattle.std.specs.Prelude.{◌≡◌, ℕ, ℤ, pos, Option, None, Some, List, [], length, map, option_map, codes, refl}
 use Rattle.gx_syntax_tree.specs.declared.stmt.Stmt.{Stmt}
 use Rattle.gx_syntax_tree.specs.declared.stmt.Stmt.TheVariants as stmts
 use Rattle.gx_types_stmts.specs.declared.column_list.ColumnList.{ColumnList}

@@ -1,5 +1,5 @@
 -- Check 8: columns of one list that have to be those of another.
-use Rattle.std.specs.Prelude.{◌≡◌, Bool, true, false, ◌&&◌, if◌then◌else◌, Result, Ok, Err, List, [], ◌∷◌, map, codes, refl}
+use Rattle.std.specs.Prelude.{◌≡◌, Bool, true, false, ◌&&◌, if◌then◌else◌, Result, Ok, List, [], ◌∷◌, map, codes, refl}
 use Rattle.std.specs.Cmp.Lexicographic.{pointwise}
 use Rattle.std.specs.Str.{bytes_eq}
 use Rattle.gx_rows.specs.Columns.{Column}

@@ -1,6 +1,5 @@
 -- Check 4: the messages that edges send.
-use Rattle.std.specs.Prelude.{◌≡◌, ℕ, Option, None, Some, Result, Ok, Err, List, [], ◌∷◌, ◌++◌, flat_map, refl}
-use Rattle.gx_expr.specs.declared.expr.Expr.{Expr}
+use Rattle.std.specs.Prelude.{ℕ, Result, Ok, List, [], ◌∷◌, ◌++◌, flat_map}
 use Rattle.gx_rows.specs.Results.{◌>>=◌}
 use Rattle.gx_syntax_tree.specs.Bounds.{exprs_if}
 use Rattle.gx_syntax_tree.specs.declared.expr.Expr.{Expr as Written}

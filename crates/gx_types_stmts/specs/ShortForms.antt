@@ -1,5 +1,5 @@
 -- The short forms of `aggregate`.
-use Rattle.std.specs.Prelude.{◌≡◌, ℕ, pos, None, List, [], ◌∷◌, codes, refl}
+use Rattle.std.specs.Prelude.{◌≡◌, pos, None, List, [], ◌∷◌, codes, refl}
 use Rattle.gx_expr.specs.declared.expr.Expr.{Expr}
 use Rattle.gx_expr.specs.declared.expr.Expr.TheVariants as expr
 use Rattle.gx_expr.specs.declared.side.Side.TheVariants as side

@@ -1,6 +1,6 @@
 -- What each statement is checked for after its names, in the order sends, merges, constants, other
 -- expressions, columns; and what it makes.
-use Rattle.std.specs.Prelude.{◌≡◌, ℕ, Option, None, Some, Bool, Result, Ok, Err, List, [], ◌∷◌, map, sum, codes, refl}
+use Rattle.std.specs.Prelude.{ℕ, Option, Bool, Result, Ok, List, [], ◌∷◌, map, sum, codes}
 use Rattle.gx_rows.specs.Columns.{Column}
 use Rattle.gx_rows.specs.Results.{◌>>=◌}
 use Rattle.gx_rows.specs.declared.value.ValueKind.{ValueKind}

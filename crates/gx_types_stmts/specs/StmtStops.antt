@@ -1,5 +1,5 @@
 -- How a statement is refused, and what a function of the crate returns.
-use Rattle.std.specs.Prelude.{◌≡◌, ℕ, Option, None, Some, Result, Ok, Err, ⊤}
+use Rattle.std.specs.Prelude.{◌≡◌, None, Some, Result, Ok, Err, ⊤}
 use Rattle.gx_rows.specs.declared.limit_kind.LimitKind.TheVariants as limit
 use Rattle.gx_types_exprs.specs.declared.expr_stop.ExprStop.{ExprStop}
 use Rattle.gx_types_exprs.specs.declared.expr_stop.ExprStop.TheVariants as expr_stop

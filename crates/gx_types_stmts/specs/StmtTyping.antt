@@ -2,7 +2,7 @@
 --
 -- To add a statement, add its line in `typed_body`, with its rule in StmtRules.antt, and its line in
 -- `named_parts`.
-use Rattle.std.specs.Prelude.{◌≡◌, ℕ, nat_eq, if◌then◌else◌, Result, Ok, Err, List, [], ◌∷◌, ◌++◌, codes, refl}
+use Rattle.std.specs.Prelude.{◌≡◌, ℕ, nat_eq, if◌then◌else◌, Result, Ok, List, [], ◌∷◌, ◌++◌, codes, refl}
 use Rattle.gx_rows.specs.Results.{◌>>=◌}
 use Rattle.gx_syntax_tree.specs.declared.stmt.Stmt.{Stmt}
 use Rattle.gx_syntax_tree.specs.declared.stmt.Stmt.TheVariants as stmts

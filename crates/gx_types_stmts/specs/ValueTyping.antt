@@ -1,7 +1,6 @@
 -- Expressions of a statement: values of messages, computed columns, and tests.
-use Rattle.std.specs.Prelude.{◌≡◌, ℕ, Option, None, Some, Result, Ok, Err, List, [], ◌∷◌, map, zip, codes, refl}
+use Rattle.std.specs.Prelude.{ℕ, Option, None, Some, Result, Ok, List, map, zip}
 use Rattle.gx_rows.specs.Results.{◌>>=◌}
-use Rattle.gx_rows.specs.declared.value.ValueKind.TheVariants as kind
 use Rattle.gx_syntax_tree.specs.declared.expr.Expr.{Expr as Written}
 use Rattle.gx_syntax_tree.specs.declared.parts.ColumnExpr.{ColumnExpr}
 use Rattle.gx_types_exprs.specs.ExprScopes.{ScopeNames}

@@ -1,4 +1,3 @@
-use Rattle.std.proofs.Common.{◌≡◌, length}
 use Rattle.gx_types_stmts.specs.SameColumns as same
 use Rattle.gx_types_stmts.proofs.ColumnLemmas.{IsComparedFrom}
 use Rattle.gx_types_stmts.proofs.columns.have_same_columns.Given as goal

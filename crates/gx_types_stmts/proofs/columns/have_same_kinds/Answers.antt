@@ -1,4 +1,3 @@
-use Rattle.std.proofs.Common.{◌∙◌, ap, sym}
 use Rattle.gx_types_stmts.specs.SameColumns as same
 use Rattle.gx_types_stmts.proofs.ColumnLemmas.{compared-next, compared-stop, kind-at}
 use Rattle.gx_types_stmts.proofs.columns.have_same_kinds.Goals as goal

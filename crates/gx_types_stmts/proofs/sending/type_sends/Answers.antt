@@ -1,7 +1,4 @@
-use Rattle.std.proofs.Common.{All}
 use Rattle.gx_types_exprs.specs.ExprScopes.{scope_names}
-use Rattle.gx_types_stmts.specs.Sending.{sent_exprs}
-use Rattle.gx_types_stmts.specs.StmtBounds.{HasShortTexts}
 use Rattle.gx_types_stmts.proofs.SendWalk.{sent-next, sent-none, sent-short}
 use Rattle.gx_types_stmts.proofs.sending.type_sends.Goals as goal
 
