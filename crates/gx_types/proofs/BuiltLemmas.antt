@@ -1,9 +1,8 @@
 -- Statements that are tested one after the other.
-use Rattle.std.proofs.Common.{◌≡◌, ℕ, ◌+◌, ◌<◌, ◌≤◌, Bool, true, false, if◌then◌else◌, Result, Ok, Err, None, List, [], ◌∷◌, length, drop, get_or, refl, sym, ap, subst, ◌∙◌, arith}
+use Rattle.std.proofs.Common.{◌≡◌, ℕ, ◌+◌, ◌<◌, ◌≤◌, true, false, Ok, Err, None, List, ◌∷◌, length, drop, get_or, refl, sym, ap, ◌∙◌, arith}
 use Rattle.std.proofs.lemmas.List.{drop_all, drop_more}
 use Rattle.gx_syntax_tree.specs.declared.stmt.Stmt.{Stmt}
 use Rattle.gx_types.specs.Built.{built_statements, is_built}
-use Rattle.gx_types.specs.declared.type_stop.TypeStop.{TypeStop}
 use Rattle.gx_types.specs.declared.type_stop.TypeStop.TheVariants as stop
 use Rattle.gx_types_exprs.specs.declared.type_kind.TypeKind.TheVariants as type_kind
 

@@ -3,7 +3,7 @@ use Rattle.std.proofs.Common.{◌≡◌, ℕ, zero, suc, ◌+◌, ◌<◌, ◌�
 use Rattle.std.specs.List.{IsAmong}
 use Rattle.std.specs.List.Sorted.{IsStrictlyIncreasing}
 use Rattle.std.proofs.lemmas.List.{append-nil, append_assoc, drop_all, drop_more, get_or-set_same}
-use Rattle.gx_types.specs.Marks.{IsMarked, MarksEach, marked_numbers}
+use Rattle.gx_types.specs.Marks.{IsMarked, marked_numbers}
 
 -- ---- members
 

@@ -1,5 +1,5 @@
 -- Uses that are followed from the last statement down.
-use Rattle.std.proofs.Common.{◌≡◌, ℕ, zero, suc, ◌+◌, ◌-◌, ◌<◌, ◌≤◌, ◌⊎◌, inl, inr, Bool, true, false, All, Some, List, [], ◌∷◌, length, replicate, IfOk, Result, Ok, Err, Vec, Global, get_or, slice_get, refl, sym, ap, subst, ◌∙◌, arith}
+use Rattle.std.proofs.Common.{◌≡◌, ℕ, zero, suc, ◌-◌, ◌<◌, ◌≤◌, ◌⊎◌, inl, inr, Bool, false, All, Some, List, [], ◌∷◌, length, replicate, IfOk, Result, Ok, Err, Vec, Global, get_or, slice_get, sym, ap, subst, ◌∙◌, arith}
 use Rattle.std.specs.List.{IsAmong}
 use Rattle.std.proofs.lemmas.Bool.{cases_lt}
 use Rattle.gx_rows.specs.declared.no_memory.NoMemory.{NoMemory}

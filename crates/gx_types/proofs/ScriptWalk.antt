@@ -1,7 +1,7 @@
 -- Statements that are checked one after the other.
 use Rattle.std.proofs.Common.{◌≡◌, ℕ, ◌+◌, ◌<◌, ◌≤◌, All, Result, Ok, Err, List, [], ◌∷◌, ◌++◌, length, drop, get_or, refl, sym, ap, subst, ◌∙◌, arith}
 use Rattle.std.proofs.lemmas.List.{append-nil, drop_all, length-append}
-use Rattle.gx_rows.specs.Results.{◌>>=◌, try_append, try_cons, try_append-try_cons, try_append-stop, try_append-done}
+use Rattle.gx_rows.specs.Results.{◌>>=◌, try_append, try_append-try_cons}
 use Rattle.gx_syntax_tree.specs.declared.stmt.Stmt.{Stmt}
 use Rattle.gx_types.specs.Needs.{UseEarlier}
 use Rattle.gx_types.specs.ScriptTyping.{numbered_stmt, typed_statements, typed_statements_of}

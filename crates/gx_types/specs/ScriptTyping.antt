@@ -1,5 +1,5 @@
 -- Typing of a script.
-use Rattle.std.specs.Prelude.{◌≡◌, ℕ, ◌+◌, if◌then◌else◌, nat_le, Result, Ok, Err, List, [], ◌∷◌, length, All, codes, refl}
+use Rattle.std.specs.Prelude.{◌+◌, if◌then◌else◌, nat_le, Result, Ok, Err, List, [], ◌∷◌, length, All}
 use Rattle.gx_rows.specs.Limits.{most_of}
 use Rattle.gx_rows.specs.Results.{◌>>=◌}
 use Rattle.gx_rows.specs.declared.limit_kind.LimitKind.TheVariants as limit

@@ -1,4 +1,4 @@
-use Rattle.std.proofs.Common.{rules, sym, subst}
+use Rattle.std.proofs.Common.{rules, subst}
 use Rattle.gx_types.specs.Marks.{IsMarked}
 use Rattle.gx_types.specs.Needs.{UseEarlier}
 use Rattle.gx_types.proofs.NeedLemmas.{followed-first, followed-next, needs-returned, none-marked}
