@@ -1,9 +1,10 @@
 -- Statements that are checked one after the other.
 use Rattle.std.proofs.Common.{◌≡◌, ℕ, ◌+◌, ◌<◌, ◌≤◌, All, Result, Ok, Err, List, [], ◌∷◌, ◌++◌, length, drop, get_or, refl, sym, ap, subst, ◌∙◌, arith}
 use Rattle.std.proofs.lemmas.List.{append-nil, drop_all, length-append}
+use Rattle.std.proofs.lemmas.List.Elements.{All-nil, All-push}
 use Rattle.gx_rows.specs.Results.{◌>>=◌, try_append, try_append-try_cons}
 use Rattle.gx_syntax_tree.specs.declared.stmt.Stmt.{Stmt}
-use Rattle.gx_types.specs.Needs.{UseEarlier}
+use Rattle.gx_types.specs.Needs.{NamesAreUsed, UseEarlier}
 use Rattle.gx_types.specs.ScriptTyping.{numbered_stmt, typed_statements, typed_statements_of}
 use Rattle.gx_types.specs.declared.type_stop.TypeStop.{TypeStop}
 use Rattle.gx_types_stmts.specs.KnownNames.{Context, IsEarlier, no_context}
@@ -18,6 +19,7 @@ pub record AreTypedStmts (xs : List Stmt) (i : ℕ) (k : Context) (ts : List Che
   pub counted : k.count ≡ i
   pub as_many : length ts ≡ i
   pub earlier : UseEarlier ts
+  pub named : All NamesAreUsed ts
 
 try-none : (rest : Result (List CheckedStmt) TypeStop) → try_append [] rest ≡ rest
 try-none (Ok xs) = refl
@@ -30,6 +32,7 @@ typed-none xs k ts is none =
       counted = refl;
       as_many = refl;
       earlier = λ i t e. cc;
+      named = All-nil NamesAreUsed;
     }))
 
 -- the next statement
@@ -42,8 +45,8 @@ moved : (ts : List CheckedStmt) (t : CheckedStmt) (x : Result CheckedStmt TypeSt
 moved ts t x rest is = rw is (try_append-try_cons ts t (Ok t) (rest t) refl)
 
 pub typed-next : (xs : List Stmt) (i : ℕ) (k m : Context) (ts us : List CheckedStmt) (x : Stmt) (t : CheckedStmt) → i < length xs → x ≡ get_or xs i x → AreTypedStmts xs i k ts
-    → numbered_stmt k x ≡ Ok t → m ≡ context_with k x t.made → All (IsEarlier k.count) t.uses → us ≡ ts ++ t ∷ [] → AreTypedStmts xs (i + 1) m us
-typed-next xs i k m ts us x t below is h typed after earlier more =
+    → numbered_stmt k x ≡ Ok t → m ≡ context_with k x t.made → All (IsEarlier k.count) t.uses → NamesAreUsed t → us ≡ ts ++ t ∷ [] → AreTypedStmts xs (i + 1) m us
+typed-next xs i k m ts us x t below is h typed after earlier named more =
     let step : try_append ts (typed_statements k (drop i xs)) ≡ try_append (ts ++ t ∷ []) (typed_statements (context_with k x t.made) (drop (i + 1) xs)) =
     ap (try_append ts) (next-split xs i x k below is) ∙ moved ts t (numbered_stmt k x) (λ y. typed_statements (context_with k x y.made) (drop (i + 1) xs)) typed in
     let longer : length (ts ++ t ∷ []) ≡ i + 1 = rw length-append (omega (arith, h.as_many)) in
@@ -52,6 +55,7 @@ typed-next xs i k m ts us x t below is h typed after earlier more =
       counted = omega (arith, h.counted);
       as_many = longer;
       earlier = earlier-push ts t h.earlier (subst (λ n. All (IsEarlier n) t.uses) (h.counted ∙ sym h.as_many) earlier);
+      named = All-push NamesAreUsed ts t h.named named;
     }))
 
 pub typed-stop : (xs : List Stmt) (i : ℕ) (k : Context) (ts : List CheckedStmt) (x : Stmt) (e : TypeStop) → i < length xs → x ≡ get_or xs i x → AreTypedStmts xs i k ts

@@ -3,6 +3,7 @@ use Rattle.std.specs.Prelude.{◌≡◌, ℕ, ◌-◌, ◌≤◌, Some, List, Al
 use Rattle.std.specs.List.{IsAmong}
 use Rattle.std.specs.List.Sorted.{IsStrictlyIncreasing}
 use Rattle.gx_types_stmts.specs.KnownNames.{IsEarlier}
+use Rattle.gx_types_stmts.specs.StmtNumbers.{named_numbers}
 use Rattle.gx_types_stmts.specs.declared.checked_stmt.CheckedStmt.{CheckedStmt}
 
 -- statement s, counted from 1, uses statement u
@@ -20,6 +21,10 @@ pub data IsNeeded (ts : List CheckedStmt) (s : ℕ) : ℕ → Type 0 where
 -- each statement uses earlier ones alone
 abbrev pub UseEarlier : List CheckedStmt → Type 0
 UseEarlier ts = (i : ℕ) (t : CheckedStmt) → slice_get ts i ≡ Some t → All (IsEarlier i) t.uses
+
+-- a statement uses those that it names, in text order
+abbrev pub NamesAreUsed : CheckedStmt → Type 0
+NamesAreUsed t = t.uses ≡ named_numbers t.stmt
 
 -- all statements that are needed, and no others, in ascending order
 pub record AreNeeded (ts : List CheckedStmt) (s : ℕ) (ns : List ℕ) : Type 0 where

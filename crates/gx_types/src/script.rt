@@ -1,6 +1,7 @@
 //! The check of a script.
 
 ghost use Rattle.std.specs.Prelude.{◌≡◌, ◌<◌, ◌≤◌, [], ◌∷◌, ◌++◌, All, IfErr, IfOk, OnOk, length};
+ghost use Rattle.gx_types.specs.Needs.{NamesAreUsed};
 ghost use Rattle.gx_types.specs.ScriptTyping as typing;
 ghost use Rattle.gx_types.specs.TypeStops.{TypeReturns};
 ghost use Rattle.gx_types.specs.declared.type_stop.TypeStop.TheVariants as stop;
@@ -68,6 +69,7 @@ fn type_next(alloc: Global, known: &mut Known, stmt: &Stmt) -> Result<CheckedStm
     requires typable { IsTypable stmt.now }
     ensures typed { TypeReturns result (typing.numbered_stmt known.old stmt.now) }
     ensures earlier { IfOk result (λ t. All (IsEarlier known.old.count) t.uses) }
+    ensures named { IfOk result NamesAreUsed }
     ensures added { IfOk result (λ t. known.new ≡ context_with known.old stmt.now t.made) }
 {
     match type_stmt(alloc, known, stmt) {

@@ -1,23 +1,25 @@
 //! Scripts that are well typed.
 
-ghost use Rattle.std.specs.Prelude.{◌≡◌, ◌-◌, ◌<◌, ◌≤◌, ◌^◌, Some, length, option_map, slice_get, vec_len};
+ghost use Rattle.std.specs.Prelude.{◌≡◌, ◌-◌, ◌<◌, ◌≤◌, ◌^◌, All, Some, length, option_map, slice_get};
+ghost use Rattle.std.specs.Prelude.{vec_len};
 ghost use Rattle.std.specs.Option.{option_copied};
-ghost use Rattle.gx_types.specs.Needs.{UseEarlier};
+ghost use Rattle.gx_types.specs.Needs.{NamesAreUsed, UseEarlier};
+ghost use Rattle.gx_types_stmts.specs.StmtNumbers.{named_numbers};
 
 use gx_rows::RowType;
 use gx_types_stmts::{CheckedStmt, SharedType, TypedStmt};
 use std::marker::Model;
 
 /// A script that is well typed. Contracts see it as the list of its statements, each of which uses
-/// earlier ones alone.
+/// those that it names, and earlier ones alone.
 #[derive(Drop)]
 pub struct Typed {
     pub(crate) statements: Vec<CheckedStmt>,
 }
 
 impl Model for Typed {
-    ghost use Rattle.std.specs.Prelude.{List, ◌<◌, ◌^◌, vec_len};
-    ghost use Rattle.gx_types.specs.Needs.{UseEarlier};
+    ghost use Rattle.std.specs.Prelude.{All, List, ◌<◌, ◌^◌, vec_len};
+    ghost use Rattle.gx_types.specs.Needs.{NamesAreUsed, UseEarlier};
     ghost use Rattle.gx_types_stmts.specs.declared.checked_stmt.CheckedStmt.{CheckedStmt as Statement};
     ghost use Rattle.gx_types_stmts.specs.contracts.checked_stmt.CheckedStmt as statement;
     ghost use Rattle.std.specs.Coded.{codes};
@@ -28,7 +30,11 @@ impl Model for Typed {
 
     ghost view = { λ t. t.statements.items };
 
-    ghost invariant = { λ t. (vec_len t.statements < 2 ^ 32) × UseEarlier t.statements.items };
+    ghost invariant = { λ t. record {
+      few : vec_len t.statements < 2 ^ 32;
+      earlier : UseEarlier t.statements.items;
+      named : All NamesAreUsed t.statements.items;
+    } };
 }
 
 impl Typed {
@@ -36,6 +42,7 @@ impl Typed {
     pub(crate) fn of(statements: Vec<CheckedStmt>) -> Typed
         requires few { vec_len statements < 2 ^ 32 }
         requires earlier { UseEarlier statements.items }
+        requires named { All NamesAreUsed statements.items }
         ensures { result ≡ statements.items }
     {
         Typed { statements }
@@ -53,7 +60,9 @@ impl Typed {
     pub fn statement(&self, s: u32) -> &TypedStmt
         requires from_one { 1 ≤ s }
         requires within { s ≤ length self.now }
-        ensures { option_map (λ t. t.stmt) (slice_get self.now (s - 1)) ≡ Some result.now }
+        ensures at { option_map (λ t. t.stmt) (slice_get self.now (s - 1)) ≡ Some result.now }
+        ensures named { option_map (λ t. t.uses) (slice_get self.now (s - 1))
+            ≡ Some (named_numbers result.now) }
     {
         &self.statements[s as usize - 1].stmt
     }

@@ -7,4 +7,5 @@ mod LimitLemmas
 mod NodeCounts
 mod PartBounds
 mod SendWalk
+mod StatementLemmas
 mod ValueWalk

@@ -8,6 +8,7 @@ pub mod SameColumns
 pub mod Sending
 pub mod ShortForms
 pub mod StmtBounds
+pub mod StmtNumbers
 pub mod StmtRules
 pub mod StmtStops
 pub mod StmtTyping

@@ -4,8 +4,9 @@ ghost use Rattle.std.specs.Prelude.{◌≡◌, ◌<◌, ◌≤◌, IfOk, OnErr, 
 ghost use Rattle.gx_types_stmts.specs.KnownNames as names;
 ghost use Rattle.gx_types_stmts.specs.Makes.{operand_types};
 ghost use Rattle.gx_types_stmts.specs.NamedParts.{used_name};
+ghost use Rattle.gx_types_stmts.specs.StmtNumbers.{number_if_used};
 ghost use Rattle.gx_types_stmts.specs.StmtStops.{StmtReturns, StmtReturnsAs};
-ghost use Rattle.gx_types_stmts.specs.StmtTyping.{context_with, typed_stmt};
+ghost use Rattle.gx_types_stmts.specs.StmtTyping.{context_with, typed_stmt, used_number};
 
 use crate::limits::rounds_of;
 use crate::operand::Operand;
@@ -137,6 +138,8 @@ impl Known {
         ensures named { StmtReturnsAs operand_types result
             (names.used_operand self.now (option_map used_name used.now)) }
         ensures earlier { IfOk result (λ x. x.number ≤ self.now.count) }
+        ensures numbered { IfOk result (λ x. used_number (operand_types x)
+            ≡ number_if_used (option_map used_name used.now) (operand_types x)) }
     {
         match used {
             Some(used) => self.operand_named(used),
@@ -151,7 +154,7 @@ impl Known {
     fn operand_named(&self, used: &UsedName<'_>) -> Result<Operand<'_>, StmtStop>
         ensures named { StmtReturnsAs operand_types result
             (names.named_operand self.now (used_name used.now)) }
-        ensures earlier { IfOk result (λ x. x.number ≤ self.now.count) }
+        ensures earlier { IfOk result (λ x. names.IsEarlier self.now.count x.number) }
     {
         let Some(definition) = self.names.get(used.name) else {
             return Err(StmtStop::refused(TypeKind::NameUnknown));

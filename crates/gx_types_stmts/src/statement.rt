@@ -4,6 +4,7 @@ ghost use Rattle.std.specs.Prelude.{◌≡◌, ◌++◌, All, IfOk};
 ghost use Rattle.gx_types_stmts.specs.KnownNames.{IsEarlier};
 ghost use Rattle.gx_types_stmts.specs.Makes.{operand_types};
 ghost use Rattle.gx_types_stmts.specs.StmtBounds.{IsTypable};
+ghost use Rattle.gx_types_stmts.specs.StmtNumbers.{named_numbers};
 ghost use Rattle.gx_types_stmts.specs.StmtStops.{StmtReturns};
 ghost use Rattle.gx_types_stmts.specs.StmtTyping.{typed_stmt, used_number};
 
@@ -26,6 +27,7 @@ pub fn type_stmt(alloc: Global, known: &Known, stmt: &Stmt) -> Result<CheckedStm
     requires { IsTypable stmt.now }
     ensures checked { StmtReturns result (typed_stmt known.now stmt.now) }
     ensures earlier { IfOk result (λ t. All (IsEarlier known.now.count) t.uses) }
+    ensures named { IfOk result (λ t. t.uses ≡ named_numbers t.stmt) }
 {
     let parts = parts_of(stmt);
     known.check_new(parts.name)?;

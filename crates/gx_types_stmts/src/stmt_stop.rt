@@ -6,7 +6,6 @@ ghost use Rattle.gx_types_stmts.specs.declared.stmt_stop.StmtStop.TheVariants as
 
 use gx_rows::{LimitKind, NoMemory};
 use gx_types_exprs::{ExprStop, TypeKind};
-use std::alloc::AllocError;
 
 /// Why a statement is refused.
 #[derive(Clone, Copy, Debug, PartialEq, Eq)]
@@ -52,14 +51,6 @@ impl From<NoMemory> for StmtStop {
     ghost from_gives = { λ _ made. made ≡ stop.NoMemory };
 
     fn from(_error: NoMemory) -> StmtStop {
-        StmtStop::NoMemory
-    }
-}
-
-impl From<AllocError> for StmtStop {
-    ghost from_gives = { λ _ made. made ≡ stop.NoMemory };
-
-    fn from(_error: AllocError) -> StmtStop {
         StmtStop::NoMemory
     }
 }

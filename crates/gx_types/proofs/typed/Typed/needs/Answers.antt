@@ -12,8 +12,8 @@ statements-init c =
 
 pub statements-preserved : goal.statements-preserved
 statements-preserved c =
-    followed-next c.args.self.now c.args.s c.statements.i c.statements.marks.items c.follow.new.marks.items (subst UseEarlier c.self.view_is c.self.invariant.1) c.statements-test.true (search rules) c.statements.invariant c.follow.ensures.followed
+    followed-next c.args.self.now c.args.s c.statements.i c.statements.marks.items c.follow.new.marks.items (subst UseEarlier c.self.view_is c.self.invariant.earlier) c.statements-test.true (search rules) c.statements.invariant c.follow.ensures.followed
 
 pub returns : goal.returns
 returns c =
-    needs-returned c.args.self.now c.args.s c.statements.i c.statements.marks.items c.as_slice.result.now c.marked.result (subst UseEarlier c.self.view_is c.self.invariant.1) c.statements-test.false c.statements.invariant c.as_slice.ensures.value c.marked.ensures
+    needs-returned c.args.self.now c.args.s c.statements.i c.statements.marks.items c.as_slice.result.now c.marked.result (subst UseEarlier c.self.view_is c.self.invariant.earlier) c.statements-test.false c.statements.invariant c.as_slice.ensures.value c.marked.ensures

@@ -43,4 +43,4 @@ returns-clause-earlier c =
     let es = c.self.inside.names.entries in
     let found = rw (lookup-named_definitions name es, ← c.in-Some.ensures.value) at
     (All-lookup (λ d. IsEarlier c.self.inside.len d.number) (bytes_eq name) (named_definitions es) c.self.invariant.1) in
-    rw (← c.self.view_is) found.1
+    rw (← c.self.view_is) found
