@@ -1,0 +1,6 @@
+mod BuiltLemmas
+mod ScriptWalk
+mod UseLemmas
+mod MarkLemmas
+mod NeedLemmas
+mod BoundedScripts

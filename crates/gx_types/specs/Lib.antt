@@ -1,0 +1,5 @@
+pub mod Built
+pub mod Marks
+pub mod Needs
+pub mod ScriptTyping
+pub mod TypeStops

@@ -1,0 +1,11 @@
+mod BoundLemmas
+mod ColumnLemmas
+mod ColumnNames
+mod Conversions
+mod KnownLemmas
+mod LimitLemmas
+mod NodeCounts
+mod PartBounds
+mod SendWalk
+mod StatementLemmas
+mod ValueWalk

@@ -1,0 +1,129 @@
+//! Statements that make a graph of tables, edges and graphs: `graph`, `fromedges`, `reverse`,
+//! `mask`, `subgraph`, `groupedges`, `partition`.
+
+ghost use Rattle.std.specs.Prelude.{◌≡◌, ◌++◌, IfOk, map};
+ghost use Rattle.gx_syntax_tree.specs.Bounds.{exprs_if};
+ghost use Rattle.gx_types_stmts.specs.Makes.{graph_stmt, operand_types};
+ghost use Rattle.gx_types_stmts.specs.StmtBounds.{AreTypable, IsColumnList};
+ghost use Rattle.gx_types_stmts.specs.StmtRules as rules;
+ghost use Rattle.gx_types_stmts.specs.StmtStops.{StmtReturns};
+
+use crate::constants::{named_row, named_type, type_row};
+use crate::merging::{grouped_type, merge_kinds};
+use crate::operand::Operand;
+use crate::tests_of_rows::type_test;
+use crate::typed_body::TypedBody;
+use crate::{StmtStop, TypedStmt};
+use gx_rows::NoMemory;
+use gx_syntax_tree::{ColumnConst, ColumnMerge, Const, Expr};
+use gx_types_exprs::ExprScope;
+use sqlite_items::Items;
+use std::alloc::Global;
+
+/// A statement that makes a graph with the row types of another.
+///
+/// # Errors
+///
+/// `NoMemory` if no further copy of a row type can be counted.
+pub(crate) fn same_graph(stmt: TypedStmt, graph: &Operand<'_>) -> Result<TypedBody, NoMemory>
+    ensures { IfOk result (λ s. s ≡ rules.same_graph stmt (operand_types graph.now)) }
+{
+    let vertices = graph.vertices.copy()?;
+    let edges = graph.edges.copy()?;
+    Ok(TypedBody::graph(stmt, vertices, edges))
+}
+
+/// `graph`
+///
+/// # Errors
+///
+/// The first check that fails; `NoMemory` if memory runs out.
+pub(crate) fn type_graph(
+    alloc: Global,
+    vertices: &Operand<'_>,
+    edges: &Operand<'_>,
+    default: &Items<Const>,
+) -> Result<TypedBody, StmtStop>
+    ensures { StmtReturns result
+        (rules.built_graph (operand_types vertices.now) (operand_types edges.now) default.now) }
+{
+    let default = type_row(alloc, vertices.vertices.get(), default)?;
+    let stmt = TypedStmt::Graph {
+        vertices: vertices.number,
+        edges: edges.number,
+        default,
+    };
+    let vertices = vertices.vertices.copy()?;
+    let edges = edges.edges.copy()?;
+    Ok(TypedBody::graph(stmt, vertices, edges))
+}
+
+/// `fromedges`
+///
+/// # Errors
+///
+/// `NoMemory` if memory runs out.
+pub(crate) fn type_from_edges(
+    alloc: Global,
+    edges: &Operand<'_>,
+    row: &Items<ColumnConst>,
+) -> Result<TypedBody, NoMemory>
+    requires { IsColumnList (map (λ c. c.name) row.now) }
+    ensures { IfOk result (λ s. s ≡ rules.graph_of_edges (operand_types edges.now) row.now) }
+{
+    let vertices = named_type(alloc, row)?;
+    let stmt = TypedStmt::FromEdges {
+        edges: edges.number,
+        row: named_row(alloc, row)?,
+    };
+    Ok(TypedBody::graph(stmt, vertices, edges.edges.copy()?))
+}
+
+/// `subgraph`
+///
+/// # Errors
+///
+/// The first check that fails; `NoMemory` if memory runs out.
+#[tactic(auto, using(crate::proofs::BoundLemmas::left_short, crate::proofs::BoundLemmas::right_short, crate::proofs::BoundLemmas::joined_counted))]
+pub(crate) fn type_subgraph(
+    alloc: Global,
+    graph: &Operand<'_>,
+    vertices: &Option<Expr>,
+    edges: &Option<Expr>,
+) -> Result<TypedBody, StmtStop>
+    requires { AreTypable (exprs_if vertices.now ++ exprs_if edges.now) }
+    ensures { StmtReturns result
+        (rules.tested_graph (operand_types graph.now) vertices.now edges.now) }
+{
+    let rows = graph.vertices.get();
+    let vertices = type_test(alloc, vertices, &ExprScope::Vertex(rows), 0)?;
+    let scope = ExprScope::Triplet(rows, graph.edges.get());
+    let edges = type_test(alloc, edges, &scope, vertices.next)?;
+    let stmt = TypedStmt::Subgraph {
+        graph: graph.number,
+        vertices: vertices.test,
+        edges: edges.test,
+    };
+    Ok(same_graph(stmt, graph)?)
+}
+
+/// `groupedges`
+///
+/// # Errors
+///
+/// The first check that fails; `NoMemory` if memory runs out.
+pub(crate) fn type_group_edges(
+    alloc: Global,
+    graph: &Operand<'_>,
+    merges: &Items<ColumnMerge>,
+) -> Result<TypedBody, StmtStop>
+    requires { IsColumnList (map (λ m. m.name) merges.now) }
+    ensures { StmtReturns result (rules.grouped_graph (operand_types graph.now) merges.now) }
+{
+    let edges = grouped_type(alloc, merges, graph.edges.get())?;
+    let stmt = TypedStmt::GroupEdges {
+        graph: graph.number,
+        merges: merge_kinds(alloc, merges)?,
+    };
+    Ok(TypedBody::graph(stmt, graph.vertices.copy()?, edges))
+}

@@ -1,0 +1,158 @@
+//! Statements that make a table of tables: `filter`, `mapvalues`, `minus`, `diff`, `innerjoin`,
+//! `leftjoin`.
+
+ghost use Rattle.std.specs.Prelude.{◌≡◌, [], ◌∷◌, IfOk};
+ghost use Rattle.gx_types_stmts.specs.Makes.{operand_types};
+ghost use Rattle.gx_types_stmts.specs.StmtBounds.{AreTypable, AreTypableSets};
+ghost use Rattle.gx_types_stmts.specs.StmtRules as rules;
+ghost use Rattle.gx_types_stmts.specs.StmtStops.{StmtReturns};
+
+use crate::columns::check_same_kinds;
+use crate::constants::type_row;
+use crate::operand::Operand;
+use crate::sets::type_sets;
+use crate::tests_of_rows::type_condition;
+use crate::typed_body::TypedBody;
+use crate::{StmtStop, TypedStmt};
+use gx_rows::NoMemory;
+use gx_syntax_tree::{ColumnExpr, Const, Expr};
+use gx_types_exprs::ExprScope;
+use sqlite_items::Items;
+use std::alloc::Global;
+
+// A statement that makes a table with the row type of another.
+fn same_table(stmt: TypedStmt, table: &Operand<'_>) -> Result<TypedBody, NoMemory>
+    ensures { IfOk result (λ s. s ≡ rules.same_table stmt (operand_types table.now)) }
+{
+    Ok(TypedBody::table(stmt, table.vertices.copy()?))
+}
+
+/// `filter`
+///
+/// # Errors
+///
+/// The first check that fails; `NoMemory` if memory runs out.
+#[tactic(auto, using(crate::proofs::BoundLemmas::lone_short, crate::proofs::BoundLemmas::lone_counted))]
+pub(crate) fn type_filter(
+    alloc: Global,
+    table: &Operand<'_>,
+    condition: &Expr,
+) -> Result<TypedBody, StmtStop>
+    requires { AreTypable (condition.now ∷ []) }
+    ensures { StmtReturns result (rules.filtered_table (operand_types table.now) condition.now) }
+{
+    let scope = ExprScope::Vertex(table.vertices.get());
+    let condition = type_condition(alloc, condition, &scope, 0)?;
+    let stmt = TypedStmt::Filter {
+        table: table.number,
+        condition: condition.expr,
+    };
+    Ok(same_table(stmt, table)?)
+}
+
+/// `mapvalues`
+///
+/// # Errors
+///
+/// The first check that fails; `NoMemory` if memory runs out.
+pub(crate) fn type_map_values(
+    alloc: Global,
+    table: &Operand<'_>,
+    sets: &Items<ColumnExpr>,
+) -> Result<TypedBody, StmtStop>
+    requires { AreTypableSets sets.now }
+    ensures { StmtReturns result (rules.mapped_table (operand_types table.now) sets.now) }
+{
+    let sets = type_sets(alloc, sets, &ExprScope::Vertex(table.vertices.get()))?;
+    let stmt = TypedStmt::MapValues {
+        table: table.number,
+        sets: sets.exprs,
+    };
+    Ok(TypedBody::table(stmt, sets.columns))
+}
+
+/// `minus`
+///
+/// # Errors
+///
+/// `NoMemory` if no further copy of a row type can be counted.
+pub(crate) fn type_minus(table: &Operand<'_>, other: &Operand<'_>) -> Result<TypedBody, NoMemory>
+    ensures { IfOk result
+        (λ s. s ≡ rules.subtracted_table (operand_types table.now) (operand_types other.now)) }
+{
+    let stmt = TypedStmt::Minus {
+        table: table.number,
+        other: other.number,
+    };
+    same_table(stmt, table)
+}
+
+/// `diff`
+///
+/// # Errors
+///
+/// The first check that fails; `NoMemory` if no further copy of a row type can be counted.
+pub(crate) fn type_diff(table: &Operand<'_>, other: &Operand<'_>) -> Result<TypedBody, StmtStop>
+    ensures { StmtReturns result
+        (rules.compared_table (operand_types table.now) (operand_types other.now)) }
+{
+    check_same_kinds(table.vertices.get(), other.vertices.get())?;
+    let stmt = TypedStmt::Diff {
+        table: table.number,
+        other: other.number,
+    };
+    Ok(same_table(stmt, table)?)
+}
+
+/// `innerjoin`
+///
+/// # Errors
+///
+/// The first check that fails; `NoMemory` if memory runs out.
+pub(crate) fn type_inner_join(
+    alloc: Global,
+    table: &Operand<'_>,
+    other: &Operand<'_>,
+    sets: &Items<ColumnExpr>,
+) -> Result<TypedBody, StmtStop>
+    requires { AreTypableSets sets.now }
+    ensures { StmtReturns result
+        (rules.joined_table (operand_types table.now) (operand_types other.now) sets.now) }
+{
+    let scope = ExprScope::Join(table.vertices.get(), other.vertices.get());
+    let sets = type_sets(alloc, sets, &scope)?;
+    let stmt = TypedStmt::InnerJoin {
+        table: table.number,
+        other: other.number,
+        sets: sets.exprs,
+    };
+    Ok(TypedBody::table(stmt, sets.columns))
+}
+
+/// `leftjoin`
+///
+/// # Errors
+///
+/// The first check that fails; `NoMemory` if memory runs out.
+pub(crate) fn type_left_join(
+    alloc: Global,
+    table: &Operand<'_>,
+    other: &Operand<'_>,
+    default: &Items<Const>,
+    sets: &Items<ColumnExpr>,
+) -> Result<TypedBody, StmtStop>
+    requires { AreTypableSets sets.now }
+    ensures { StmtReturns result (rules.left_joined_table (operand_types table.now)
+        (operand_types other.now) default.now sets.now) }
+{
+    let default = type_row(alloc, other.vertices.get(), default)?;
+    let scope = ExprScope::OuterJoin(table.vertices.get(), other.vertices.get());
+    let sets = type_sets(alloc, sets, &scope)?;
+    let stmt = TypedStmt::LeftJoin {
+        table: table.number,
+        other: other.number,
+        default,
+        sets: sets.exprs,
+    };
+    Ok(TypedBody::table(stmt, sets.columns))
+}

@@ -1,0 +1,131 @@
+//! Helpers of the tests: texts to outcomes, and the tables' loops.
+
+ghost use Rattle.std.specs.Prelude.{All, IfSome};
+ghost use Rattle.gx_types_stmts.specs.StmtBounds.{IsTypable};
+
+use gx_rows::NoMemory;
+use gx_syntax::{Script, parse, parsed_scripts_are_bounded, texts_have_one_meaning};
+use gx_types::{TypeStop, Typed, check, parsed_scripts_are_typable};
+use std::alloc::Global;
+use std::process::Abort;
+use std::test::Fail;
+
+/// Two tables of the same columns, edges with two columns, and a graph of the first table and the
+/// edges: statements 1 to 4.
+pub(super) const PRELUDE: &str = "vertices s from \"f\" (a: int, t: text, b: bool, l: ids);\
+vertices u from \"f\" (c: int, d: text, x: bool, y: ids); edges e from \"f\" (w: int, x: text);\
+graph g = s, e default (0, \"\", true, ids());";
+
+// The script of a text; none if it spells none, or if it is very long.
+fn script_of(alloc: Global, text: &str) -> Option<Script>
+    ensures { IfSome result (λ script. All IsTypable script.statements) }
+{
+    texts_have_one_meaning();
+    parsed_scripts_are_bounded();
+    parsed_scripts_are_typable();
+    if text.len() > 1_000_000 {
+        return None;
+    }
+    match parse(alloc, text) {
+        Ok(script) => Some(script),
+        Err(_) => None,
+    }
+}
+
+/// `ok` with the number of statements, or where and why a script is refused: its statement, and its
+/// node after a dot.
+pub(super) fn outcome(alloc: Global, text: &str) -> Result<String, NoMemory> {
+    let Some(script) = script_of(alloc, text) else {
+        return Ok(String::from_str(alloc, "no script")?);
+    };
+    shown(alloc, check(alloc, &script))
+}
+
+fn shown(alloc: Global, typed: Result<Typed, TypeStop>) -> Result<String, NoMemory> {
+    match typed {
+        Ok(typed) => Ok(format!(in alloc; "ok {}", typed.len())?),
+        Err(stop) => refusal(alloc, stop),
+    }
+}
+
+fn refusal(alloc: Global, stop: TypeStop) -> Result<String, NoMemory> {
+    match stop {
+        TypeStop::At {
+            statement,
+            expr: Some(expr),
+            kind,
+        } => Ok(format!(in alloc; "{statement}.{expr} {kind:?}")?),
+        TypeStop::At {
+            statement,
+            expr: None,
+            kind,
+        } => Ok(format!(in alloc; "{statement} {kind:?}")?),
+        TypeStop::Limit(limit) => Ok(format!(in alloc; "{limit:?}")?),
+        TypeStop::NoMemory => Err(NoMemory),
+    }
+}
+
+/// The script of a text, typed.
+pub(super) fn typed(alloc: Global, text: &str) -> Result<Option<Typed>, NoMemory> {
+    let Some(script) = script_of(alloc, text) else {
+        return Ok(None);
+    };
+    match check(alloc, &script) {
+        Ok(typed) => Ok(Some(typed)),
+        Err(_) => Ok(None),
+    }
+}
+
+/// The prelude, the front, `count` units, and the back.
+pub(super) fn lengthened(
+    alloc: Global,
+    front: &str,
+    unit: &str,
+    count: usize,
+    back: &str,
+) -> Result<String, NoMemory> {
+    let mut text = String::from_str(alloc, PRELUDE)?;
+    text.push_str(front)?;
+    for _ in 0..count {
+        text.push_str(unit)?;
+    }
+    text.push_str(back)?;
+    Ok(text)
+}
+
+fn assert_outcome(
+    rt: &impl Abort,
+    alloc: Global,
+    text: &str,
+    expected: &str,
+) -> Result<(), NoMemory> {
+    let outcome = outcome(alloc, text)?;
+    assert_eq!(rt; outcome.as_str(), expected, "at {text}");
+    Ok(())
+}
+
+/// Each text has its outcome after the prelude.
+pub(super) fn assert_each(
+    rt: &impl Abort,
+    alloc: Global,
+    table: &[(&str, &str)],
+) -> Result<(), Fail> {
+    for (text, expected) in table {
+        let whole = lengthened(alloc, text, "", 0, "")?;
+        assert_outcome(rt, alloc, whole.as_str(), expected)?;
+    }
+    Ok(())
+}
+
+/// Each text, made of a front, so many units and a back, has its outcome after the prelude.
+pub(super) fn assert_lengthened(
+    rt: &impl Abort,
+    alloc: Global,
+    table: &[(&str, &str, usize, &str, &str)],
+) -> Result<(), Fail> {
+    for (front, unit, count, back, expected) in table {
+        let whole = lengthened(alloc, front, unit, *count, back)?;
+        assert_outcome(rt, alloc, whole.as_str(), expected)?;
+    }
+    Ok(())
+}
