@@ -38,6 +38,8 @@ built_statements n (s ∷ rest) =
     if is_built s then built_statements (n + 1) rest else Err (stop.At n None type_kind.NotBuilt)
 
 -- the first that is not run yet is named
-unbuilt-named : built_statements 1 (stmts.PrintTable (codes "t") ∷ stmts.Reverse (codes "h") (codes "g") ∷ stmts.Reverse (codes "i") (codes "g") ∷ [])
+unbuilt-named :
+    built_statements 1 (stmts.PrintTable (codes "t") ∷ stmts.Reverse (codes "h") (codes "g")
+    ∷ stmts.Reverse (codes "i") (codes "g") ∷ [])
     ≡ Err (stop.At 2 None type_kind.NotBuilt)
 unbuilt-named = refl

@@ -46,7 +46,8 @@ rounds_of (negsuc n) = 0
 
 -- rounds, after those of the statements before
 abbrev pub checked_rounds : ℕ → ℕ → Result (Unit {0}) StmtStop
-checked_rounds before rounds = checked_limit limit.Rounds rounds >>= λ _. checked_limit limit.AllRounds (before + rounds)
+checked_rounds before rounds =
+    checked_limit limit.Rounds rounds >>= λ _. checked_limit limit.AllRounds (before + rounds)
 
 -- ---- all of a statement: its lists in text order, its sends, its rounds
 

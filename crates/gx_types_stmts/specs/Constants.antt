@@ -42,7 +42,9 @@ abbrev pub named_values : List ColumnConst → List Value
 named_values row = map (λ c. const_value c.value) row
 
 -- the number of constants is tested before their kinds
-numbers_fit : (constant_row ((codes "a", kind.Int) ∷ []) (written.Number (pos 7) ∷ []) ≡ Ok (value.Int (pos 7) ∷ []))
+numbers_fit :
+    (constant_row ((codes "a", kind.Int) ∷ []) (written.Number (pos 7) ∷ []) ≡ Ok (value.Int (pos 7) ∷ []))
     × (constant_row ((codes "a", kind.Int) ∷ []) (written.NoIds ∷ []) ≡ stmt_refusal type_kind.ConstKind)
-    × (constant_row ((codes "a", kind.Int) ∷ []) (written.NoIds ∷ written.NoIds ∷ []) ≡ stmt_refusal type_kind.ColumnsDiffer)
+    × (constant_row ((codes "a", kind.Int) ∷ []) (written.NoIds ∷ written.NoIds ∷ [])
+    ≡ stmt_refusal type_kind.ColumnsDiffer)
 numbers_fit = (refl, refl, refl)

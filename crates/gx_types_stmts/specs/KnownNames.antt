@@ -47,7 +47,8 @@ free_name k (Some name) = free_if (definition_of k name)
 -- ---- check 2: a used name was defined, and is of the right sort
 
 abbrev pub operand_if : UsedName → Option Definition → Result OperandTypes StmtStop
-operand_if u (Some d) = if is_of_sort u.sort d.made then Ok (operand_of d.number d.made) else stmt_refusal type_kind.WrongSort
+operand_if u (Some d) =
+    if is_of_sort u.sort d.made then Ok (operand_of d.number d.made) else stmt_refusal type_kind.WrongSort
 operand_if u None = stmt_refusal type_kind.NameUnknown
 
 abbrev pub named_operand : Context → UsedName → Result OperandTypes StmtStop
@@ -87,7 +88,8 @@ example_context = context_after no_context (Some (codes "s")) 0 (table_made exam
 names-checked :
     (free_name example_context (Some (codes "s")) ≡ stmt_refusal type_kind.NameTaken)
     × (free_name example_context (Some (codes "t")) ≡ Ok tt)
-    × (named_operand example_context (used_table (codes "s")) ≡ Ok (record { number = 1; vertices = example_table; edges = [] }))
+    × (named_operand example_context (used_table (codes "s"))
+    ≡ Ok (record { number = 1; vertices = example_table; edges = [] }))
     × (named_operand example_context (used_graph (codes "s")) ≡ stmt_refusal type_kind.WrongSort)
     × (named_operand example_context (used_table (codes "t")) ≡ stmt_refusal type_kind.NameUnknown)
 unfolding example_context

@@ -64,7 +64,8 @@ sums-merged :
     (message_columns sum_merge ((kind.Int ∷ []) ∷ (kind.Int ∷ []) ∷ []) ≡ Ok ((codes "s", kind.Int) ∷ []))
     × (message_columns sum_merge ((kind.Text ∷ []) ∷ []) ≡ stmt_refusal type_kind.MergeKind)
     × (message_columns sum_merge ((kind.Int ∷ []) ∷ (kind.Text ∷ []) ∷ []) ≡ stmt_refusal type_kind.MergeKind)
-    × (message_columns sum_merge ((kind.Text ∷ []) ∷ (kind.Int ∷ kind.Int ∷ []) ∷ []) ≡ stmt_refusal type_kind.ColumnsDiffer)
+    × (message_columns sum_merge ((kind.Text ∷ []) ∷ (kind.Int ∷ kind.Int ∷ []) ∷ [])
+    ≡ stmt_refusal type_kind.ColumnsDiffer)
     × (grouped_columns sum_merge ((codes "t", kind.Int) ∷ []) ≡ stmt_refusal type_kind.ColumnsDiffer)
 unfolding sum_merge
 sums-merged = (refl, refl, refl, refl, refl)

@@ -84,23 +84,27 @@ named_parts (stmts.MapVertices name g ss) = from_one name (used_graph g) (map (�
 named_parts (stmts.MapEdges name g ss) = from_one name (used_graph g) (map (λ s. s.name) ss)
 named_parts (stmts.MapTriplets name g ss) = from_one name (used_graph g) (map (λ s. s.name) ss)
 named_parts (stmts.JoinVertices name g t ss) = from_two name (used_graph g) (used_table t) (map (λ s. s.name) ss)
-named_parts (stmts.OuterJoin name g t default ss) = from_two name (used_graph g) (used_table t) (map (λ s. s.name) ss)
-named_parts (stmts.Aggregate name g cs ms) = record (from_one name (used_graph g) (map (λ m. m.name) ms)) { sends = length cs }
+named_parts (stmts.OuterJoin name g t default ss) =
+    from_two name (used_graph g) (used_table t) (map (λ s. s.name) ss)
+named_parts (stmts.Aggregate name g cs ms) =
+    record (from_one name (used_graph g) (map (λ m. m.name) ms)) { sends = length cs }
 named_parts (stmts.InDegrees name g) = from_one name (used_graph g) []
 named_parts (stmts.OutDegrees name g) = from_one name (used_graph g) []
 named_parts (stmts.Degrees name g) = from_one name (used_graph g) []
 named_parts (stmts.Neighbours name g d) = from_one name (used_graph g) []
-named_parts (stmts.Pregel name g rounds a ms initial program cs) = record (from_one name (used_graph g) (map (λ m. m.name) ms)) {
-  program = map (λ s. s.name) program;
-  sends = length cs;
-  rounds = rounds;
-}
+named_parts (stmts.Pregel name g rounds a ms initial program cs) =
+    record (from_one name (used_graph g) (map (λ m. m.name) ms)) {
+      program = map (λ s. s.name) program;
+      sends = length cs;
+      rounds = rounds;
+    }
 named_parts (stmts.Filter name t x) = from_one name (used_table t) []
 named_parts (stmts.MapValues name t ss) = from_one name (used_table t) (map (λ s. s.name) ss)
 named_parts (stmts.Minus name t u) = from_two name (used_table t) (used_table u) []
 named_parts (stmts.Diff name t u) = from_two name (used_table t) (used_table u) []
 named_parts (stmts.InnerJoin name t u ss) = from_two name (used_table t) (used_table u) (map (λ s. s.name) ss)
-named_parts (stmts.LeftJoin name t u default ss) = from_two name (used_table t) (used_table u) (map (λ s. s.name) ss)
+named_parts (stmts.LeftJoin name t u default ss) =
+    from_two name (used_table t) (used_table u) (map (λ s. s.name) ss)
 named_parts (stmts.PrintVertices g) = on_one (used_graph g)
 named_parts (stmts.PrintEdges g) = on_one (used_graph g)
 named_parts (stmts.PrintTriplets g) = on_one (used_graph g)
@@ -134,7 +138,8 @@ parts_record p = record {
 
 -- `minus t = s, u` defines `t` from two tables, and `print edges g` uses a graph
 parts-named :
-    (named_parts (stmts.Minus (codes "t") (codes "s") (codes "u")) ≡ from_two (codes "t") (used_table (codes "s")) (used_table (codes "u")) [])
+    (named_parts (stmts.Minus (codes "t") (codes "s") (codes "u"))
+    ≡ from_two (codes "t") (used_table (codes "s")) (used_table (codes "u")) [])
     × ((named_parts (stmts.PrintEdges (codes "g"))).first ≡ Some (used_graph (codes "g")))
     × ((named_parts (stmts.PrintEdges (codes "g"))).new_name ≡ None)
 parts-named = (refl, refl, refl)

@@ -93,7 +93,8 @@ joined_vertices g t sets = typed_sets (join_scope g.vertices t.vertices) sets >>
     Ok (same_graph (typed.JoinVertices g.number t.number s.exprs) g)
 
 -- `outerjoin`: the default row is one of the table
-abbrev pub outer_joined_graph : OperandTypes → OperandTypes → List Const → List ColumnExpr → Result TypedBody StmtStop
+abbrev pub outer_joined_graph : OperandTypes → OperandTypes → List Const → List ColumnExpr
+    → Result TypedBody StmtStop
 outer_joined_graph g t default sets = constant_row t.vertices default >>= λ row.
     typed_sets (outer_join_scope g.vertices t.vertices) sets >>= λ s.
     Ok (graph_stmt (typed.OuterJoin g.number t.number row s.exprs) s.columns g.edges)
@@ -107,14 +108,16 @@ aggregated_table g sends merges = typed_sends (triplet_scope g.vertices g.edges)
 
 -- `pregel`: the sends are written after the program, so that their nodes are numbered after its; the
 -- vertices keep their columns
-abbrev pub iterated_graph : OperandTypes → ℕ → ActiveWord → List ColumnMerge → List Const → List ColumnExpr → List SendClause → Result TypedBody StmtStop
+abbrev pub iterated_graph : OperandTypes → ℕ → ActiveWord → List ColumnMerge → List Const → List ColumnExpr
+    → List SendClause → Result TypedBody StmtStop
 iterated_graph g rounds active merges initial program sends =
     typed_sends (triplet_scope g.vertices g.edges) (sum (map node_count (column_values program))) sends >>= λ s.
     message_columns merges s.kinds >>= λ message.
     constant_row message initial >>= λ row.
     typed_sets (program_scope g.vertices message) program >>= λ p.
     checked_same_columns p.columns g.vertices >>= λ _.
-    Ok (same_graph (typed.Pregel g.number rounds (direction_of_written active) (merge_kinds merges) row p.exprs s.sends s.next) g)
+    Ok (same_graph (typed.Pregel g.number rounds (direction_of_written active) (merge_kinds merges) row p.exprs
+    s.sends s.next) g)
 
 -- ---- tables
 
@@ -143,7 +146,8 @@ joined_table t u sets = typed_sets (join_scope t.vertices u.vertices) sets >>= �
     Ok (table_stmt (typed.InnerJoin t.number u.number s.exprs) s.columns)
 
 -- `leftjoin`: the default row is one of the second table
-abbrev pub left_joined_table : OperandTypes → OperandTypes → List Const → List ColumnExpr → Result TypedBody StmtStop
+abbrev pub left_joined_table : OperandTypes → OperandTypes → List Const → List ColumnExpr
+    → Result TypedBody StmtStop
 left_joined_table t u default sets = constant_row u.vertices default >>= λ row.
     typed_sets (outer_join_scope t.vertices u.vertices) sets >>= λ s.
     Ok (table_stmt (typed.LeftJoin t.number u.number row s.exprs) s.columns)

@@ -44,7 +44,8 @@ typed_body a b (stmts.InDegrees name g) = Ok (degree_table a neighbour_words.In)
 typed_body a b (stmts.OutDegrees name g) = Ok (degree_table a neighbour_words.Out)
 typed_body a b (stmts.Degrees name g) = Ok (degree_table a neighbour_words.Either)
 typed_body a b (stmts.Neighbours name g d) = Ok (neighbour_table a d)
-typed_body a b (stmts.Pregel name g rounds w ms initial program cs) = iterated_graph a (rounds_of rounds) w ms initial program cs
+typed_body a b (stmts.Pregel name g rounds w ms initial program cs) =
+    iterated_graph a (rounds_of rounds) w ms initial program cs
 typed_body a b (stmts.Filter name t x) = filtered_table a x
 typed_body a b (stmts.MapValues name t ss) = mapped_table a ss
 typed_body a b (stmts.Minus name t u) = Ok (subtracted_table a b)
@@ -82,8 +83,10 @@ context_with k s made = context_after k (named_parts s).new_name (rounds_of (nam
 
 -- after `vertices s ..`, `minus s = s, u` is refused for its new name, and `minus t = s, u` for `u`
 names-before_uses :
-    (typed_stmt example_context (stmts.Minus (codes "s") (codes "s") (codes "u")) ≡ stmt_refusal type_kind.NameTaken)
-    × (typed_stmt example_context (stmts.Minus (codes "t") (codes "s") (codes "u")) ≡ stmt_refusal type_kind.NameUnknown)
+    (typed_stmt example_context (stmts.Minus (codes "s") (codes "s") (codes "u"))
+    ≡ stmt_refusal type_kind.NameTaken)
+    × (typed_stmt example_context (stmts.Minus (codes "t") (codes "s") (codes "u"))
+    ≡ stmt_refusal type_kind.NameUnknown)
     × (typed_stmt example_context (stmts.Minus (codes "t") (codes "s") (codes "s"))
     ≡ Ok (record { stmt = typed.Minus 1 1; made = table_made example_table; uses = 1 ∷ 1 ∷ [] }))
 unfolding example_context

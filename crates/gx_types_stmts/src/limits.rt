@@ -65,7 +65,8 @@ fn check_columns(list: &ColumnList<'_>) -> Result<(), StmtStop>
 // Checks the name at position `i`.
 fn check_name(list: &ColumnList<'_>, i: usize) -> Result<(), StmtStop>
     requires { i < length (list_names list.now) }
-    ensures { StmtReturns result (lists.checked_name (take i (list_names list.now)) (get_or (list_names list.now) i [])) }
+    ensures { StmtReturns result
+        (lists.checked_name (take i (list_names list.now)) (get_or (list_names list.now) i [])) }
 {
     let name = list.name(i);
     if is_reserved(name) {

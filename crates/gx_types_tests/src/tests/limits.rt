@@ -1,6 +1,8 @@
 //! The limits, at their numbers and one past them.
 
-use super::support::{assert_each, assert_lengthened};
+use super::support::{assert_each, assert_lengthened, assert_outcome, lengthened};
+use gx_rows::NoMemory;
+use std::alloc::Global;
 use std::test::Fail;
 
 const SIXTEEN: [(&str, &str); 5] = [
@@ -141,37 +143,32 @@ const NUMBERS: [(&str, &str, usize, &str, &str); 18] = [
     ),
 ];
 
-// A graph without columns, and pregels on it.
-const ROUNDS: [(&str, &str, usize, &str, &str); 4] = [
-    (
-        "fromedges n = e ();",
-        "pregel p = n rounds 1000 merge () initial () program () to src ();",
-        1,
-        "",
-        "6 NotBuilt",
-    ),
-    (
-        "fromedges n = e (); pregel a = n rounds 1000 merge () initial () program () to src (); pregel b = n rounds 1000 merge () initial () program () to src (); pregel c = n rounds 1000 merge () initial () program () to src (); pregel d = n rounds 1000 merge () initial () program () to src (); pregel f = n rounds 1000 merge () initial () program () to src (); pregel h = n rounds 1000 merge () initial () program () to src (); pregel i = n rounds 1000 merge () initial () program () to src (); pregel j = n rounds 1000 merge () initial () program () to src (); pregel k = n rounds 1000 merge () initial () program () to src ();",
-        "pregel p = n rounds 1000 merge () initial () program () to src ();",
-        1,
-        "",
-        "6 NotBuilt",
-    ),
-    (
-        "fromedges n = e (); pregel a = n rounds 1000 merge () initial () program () to src (); pregel b = n rounds 1000 merge () initial () program () to src (); pregel c = n rounds 1000 merge () initial () program () to src (); pregel d = n rounds 1000 merge () initial () program () to src (); pregel f = n rounds 1000 merge () initial () program () to src (); pregel h = n rounds 1000 merge () initial () program () to src (); pregel i = n rounds 1000 merge () initial () program () to src (); pregel j = n rounds 1000 merge () initial () program () to src (); pregel k = n rounds 1000 merge () initial () program () to src (); pregel l = n rounds 1000 merge () initial () program () to src ();",
-        "pregel p = n rounds 1 merge () initial () program () to src ();",
-        1,
-        "",
-        "AllRounds",
-    ),
-    (
-        "fromedges n = e (); pregel a = n rounds 1000 merge () initial () program () to src (); pregel b = n rounds 1000 merge () initial () program () to src (); pregel c = n rounds 1000 merge () initial () program () to src (); pregel d = n rounds 1000 merge () initial () program () to src (); pregel f = n rounds 1000 merge () initial () program () to src (); pregel h = n rounds 1000 merge () initial () program () to src (); pregel i = n rounds 1000 merge () initial () program () to src (); pregel j = n rounds 1000 merge () initial () program () to src (); pregel k = n rounds 1000 merge () initial () program () to src (); pregel l = n rounds 1000 merge () initial () program () to src ();",
-        "pregel p = n rounds 1001 merge () initial () program () to src ();",
-        1,
-        "",
-        "Rounds",
-    ),
+// How many times 1,000 rounds come before so many.
+const ROUNDS: [(u32, u32, &str); 6] = [
+    (0, 1_000, "6 NotBuilt"),
+    (0, 1_001, "Rounds"),
+    (9, 1_000, "6 NotBuilt"),
+    (10, 0, "6 NotBuilt"),
+    (10, 1, "AllRounds"),
+    (10, 1_001, "Rounds"),
 ];
+
+fn put_pregel(alloc: Global, text: &mut String, number: u32, rounds: u32) -> Result<(), NoMemory> {
+    let head = format!(in alloc; "pregel p{number} = n rounds {rounds} ")?;
+    text.push_str(head.as_str())?;
+    text.push_str("merge () initial () program () to src ();")?;
+    Ok(())
+}
+
+// A graph without columns, and so many pregels on it, of which the last has other rounds.
+fn pregels(alloc: Global, count: u32, rounds: u32) -> Result<String, NoMemory> {
+    let mut text = lengthened(alloc, "fromedges n = e ();", "", 0, "")?;
+    for i in 0..count {
+        put_pregel(alloc, &mut text, i, 1_000)?;
+    }
+    put_pregel(alloc, &mut text, count, rounds)?;
+    Ok(text)
+}
 
 #[test]
 fn at_most_16_columns(rt: HostRuntime) -> Result<(), Fail> {
@@ -185,5 +182,9 @@ fn numbers_are_within_their_limits(rt: HostRuntime) -> Result<(), Fail> {
 
 #[test]
 fn rounds_are_counted_over_a_script(rt: HostRuntime) -> Result<(), Fail> {
-    assert_lengthened(&rt, rt.alloc(), &ROUNDS)
+    for (count, rounds, expected) in ROUNDS {
+        let text = pregels(rt.alloc(), count, rounds)?;
+        assert_outcome(&rt, rt.alloc(), text.as_str(), expected)?;
+    }
+    Ok(())
 }

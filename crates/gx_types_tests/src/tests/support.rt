@@ -93,7 +93,8 @@ pub(super) fn lengthened(
     Ok(text)
 }
 
-fn assert_outcome(
+/// A text has its outcome.
+pub(super) fn assert_outcome(
     rt: &impl Abort,
     alloc: Global,
     text: &str,
