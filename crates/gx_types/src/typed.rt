@@ -56,6 +56,15 @@ impl Typed {
         self.statements.len() as u32
     }
 
+    /// Tells a law of each script that is well typed: its statements use exactly those that they name,
+    /// which are earlier ones. It does nothing.
+    pub fn uses_are_earlier(&self)
+        ensures earlier { UseEarlier self.now }
+        ensures named { All NamesAreUsed self.now }
+    {
+        let _statements = &self.statements;
+    }
+
     /// Statement `s`, counted from 1.
     pub fn statement(&self, s: u32) -> &TypedStmt
         requires from_one { 1 ≤ s }
