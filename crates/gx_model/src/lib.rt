@@ -1,0 +1,11 @@
+//! What a script means over plain lists: the values of its names, the faults of its statements, and
+//! the rows that its actions print.
+//!
+//! `specs/` is the product: every crate above is measured by these definitions, and none of them
+//! knows partitions, indexes, masks, views, plans or schedules. The program makes no call of this
+//! crate. To add a statement, add its line in `value_of_stmt` (specs/Values.antt), in `faults_of_stmt`
+//! (specs/StmtFaults.antt) and in `names_used` (specs/NamesUsed.antt); for an action, its line in
+//! `output_of_stmt` (specs/Outputs.antt) too.
+#![tactic(auto)]
+
+pub use gx_types_stmts::{CheckedStmt, TypedStmt};
