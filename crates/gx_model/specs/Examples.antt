@@ -22,15 +22,17 @@ use Rattle.gx_expr.specs.declared.side.Side.TheVariants as side
 use Rattle.gx_types_stmts.specs.declared.checked_stmt.CheckedStmt.{CheckedStmt}
 use Rattle.gx_types_stmts.specs.declared.typed_stmt.TypedStmt.{TypedStmt}
 use Rattle.gx_types_stmts.specs.declared.typed_stmt.TypedStmt.TheVariants as stmts
-use Rattle.gx_model.specs.Outputs.{Output}
+use Rattle.gx_model.specs.ActionAnswers.{Answer}
 use Rattle.gx_model.specs.ScriptMeaning.{Loaded, answers_of_script}
 use Rattle.gx_model.specs.Values.{LoadedRows}
 
 int_column : List ℕ → List Column
 int_column name = (name, kind.Int) ∷ []
 
-checked_stmt : TypedStmt → Option (List Column) → Option (List Column) → CheckedStmt
-checked_stmt stmt vertices edges = record { stmt = stmt; made = record { vertices = vertices; edges = edges } }
+-- a statement that uses these and makes this
+checked_stmt : TypedStmt → List ℕ → Option (List Column) → Option (List Column) → CheckedStmt
+checked_stmt stmt used vertices edges =
+    record { stmt = stmt; made = record { vertices = vertices; edges = edges }; uses = used }
 
 loaded_rows : LoadedRows
 loaded_rows =
@@ -38,16 +40,16 @@ loaded_rows =
     ∷ (2, (record { 0 = pos 2 }, record { 0 = pos 3 }, Int (pos 1) ∷ []) ∷ (record { 0 = pos 1 }, record { 0 = pos 2 }, Int (pos 4) ∷ []) ∷ [])
     ∷ []
 
--- the script whose `mapvertices` sets x to this, and which ends with these actions
-script_with : Expr → List TypedStmt → Loaded
+-- the script whose `mapvertices` sets x to this, and which ends with these actions on these statements
+script_with : Expr → List (TypedStmt × ℕ) → Loaded
 script_with x actions = record {
   loads = loaded_rows;
   checked =
-    checked_stmt (stmts.Vertices (codes "ages.csv")) (Some (int_column (codes "age"))) None
-    ∷ checked_stmt (stmts.Edges (codes "links.csv")) None (Some (int_column (codes "w")))
-    ∷ checked_stmt (stmts.Graph 1 2 (Int (pos 0) ∷ [])) (Some (int_column (codes "age"))) (Some (int_column (codes "w")))
-    ∷ checked_stmt (stmts.MapVertices 3 (x ∷ [])) (Some (int_column (codes "x"))) (Some (int_column (codes "w")))
-    ∷ map (λ stmt. checked_stmt stmt None None) actions;
+    checked_stmt (stmts.Vertices (codes "ages.csv")) [] (Some (int_column (codes "age"))) None
+    ∷ checked_stmt (stmts.Edges (codes "links.csv")) [] None (Some (int_column (codes "w")))
+    ∷ checked_stmt (stmts.Graph 1 2 (Int (pos 0) ∷ [])) (1 ∷ 2 ∷ []) (Some (int_column (codes "age"))) (Some (int_column (codes "w")))
+    ∷ checked_stmt (stmts.MapVertices 3 (x ∷ [])) (3 ∷ []) (Some (int_column (codes "x"))) (Some (int_column (codes "w")))
+    ∷ map (λ a. checked_stmt a.0 (a.1 ∷ []) None None) actions;
 }
 
 -- an operation on the age of a vertex and a number
@@ -85,9 +87,9 @@ share-result s =
       (eval_result-roll s (layer.Column 1 side.Vertex 0))
 
 -- vertex 2 is an end without a row; edges are printed in edge order
-prints-example : answers_of_script (script_with next_age (stmts.PrintVertices 4 ∷ stmts.PrintEdges 3 ∷ stmts.CountTable 1 ∷ []))
+prints-example : answers_of_script (script_with next_age ((stmts.PrintVertices 4, 4) ∷ (stmts.PrintEdges 3, 3) ∷ (stmts.CountTable 1, 1) ∷ []))
     ≡ record {
-      outputs =
+      answers =
         record { header = codes "id" ∷ codes "x" ∷ []; rows = (Int (pos 1) ∷ Int (pos 26) ∷ []) ∷ (Int (pos 2) ∷ Int (pos 1) ∷ []) ∷ (Int (pos 3) ∷ Int (pos 31) ∷ []) ∷ [] }
         ∷ record { header = codes "src" ∷ codes "dst" ∷ codes "w" ∷ []; rows = (Int (pos 1) ∷ Int (pos 2) ∷ Int (pos 4) ∷ []) ∷ (Int (pos 2) ∷ Int (pos 3) ∷ Int (pos 1) ∷ []) ∷ [] }
         ∷ record { header = codes "count" ∷ []; rows = (Int (pos 2) ∷ []) ∷ [] }
@@ -98,16 +100,16 @@ unfolding int_column checked_stmt loaded_rows script_with age_result
 prints-example = rw (next_age-result, next_age-result, next_age-result) refl
 
 -- the default of vertex 2 is 0: the action that uses h has a fault, and what is printed before stays
-fault-example : answers_of_script (script_with share (stmts.CountEdges 3 ∷ stmts.PrintVertices 4 ∷ stmts.PrintTable 1 ∷ []))
+fault-example : answers_of_script (script_with share ((stmts.CountEdges 3, 3) ∷ (stmts.PrintVertices 4, 4) ∷ (stmts.PrintTable 1, 1) ∷ []))
     ≡ record {
-      outputs = record { header = codes "count" ∷ []; rows = (Int (pos 2) ∷ []) ∷ [] } ∷ [];
+      answers = record { header = codes "count" ∷ []; rows = (Int (pos 2) ∷ []) ∷ [] } ∷ [];
       fault = Some (record { statement = 4; key = row_key.Vertex (record { 0 = pos 2 }); expr = 0; cause = cause.DivideByZero });
     }
 unfolding int_column checked_stmt loaded_rows script_with age_result
 fault-example = rw (share-result, share-result, share-result) refl
 
 -- no action uses h, so its fault is silent
-silent-example : answers_of_script (script_with share (stmts.CountTable 1 ∷ []))
-    ≡ record { outputs = record { header = codes "count" ∷ []; rows = (Int (pos 2) ∷ []) ∷ [] } ∷ []; fault = None }
+silent-example : answers_of_script (script_with share ((stmts.CountTable 1, 1) ∷ []))
+    ≡ record { answers = record { header = codes "count" ∷ []; rows = (Int (pos 2) ∷ []) ∷ [] } ∷ []; fault = None }
 unfolding int_column checked_stmt loaded_rows script_with
 silent-example = refl

@@ -7,7 +7,7 @@ use Rattle.gx_types_stmts.specs.declared.checked_stmt.CheckedStmt.{CheckedStmt}
 use Rattle.gx_types_stmts.specs.declared.typed_stmt.TypedStmt.{TypedStmt}
 use Rattle.gx_model.specs.Graphs.{Graph}
 use Rattle.gx_model.specs.NamesUsed.{stmts_used}
-use Rattle.gx_model.specs.Outputs.{Output, output_of_stmt}
+use Rattle.gx_model.specs.ActionAnswers.{Answer, answer_of_stmt}
 use Rattle.gx_model.specs.StmtFaults.{fault_of_stmt}
 use Rattle.gx_model.specs.Values.{LoadedRows, values_of_script}
 
@@ -40,31 +40,31 @@ fault_among l (s ∷ stmts) = first_fault (fault_of_number l s) (fault_among l s
 
 -- the fault of an action: that of the first statement that it uses and that has one
 abbrev pub fault_of_action : Loaded → ℕ → Option Fault
-fault_of_action l s = fault_among l (stmts_used (stmts_in l) s)
+fault_of_action l s = fault_among l (stmts_used l.checked s)
 
 -- ---- the actions, in order
 
 -- what was printed, and the fault that ended it, if one did
-pub record Answers : Type 0 where
-  pub outputs : List Output
+pub record ScriptAnswers : Type 0 where
+  pub answers : List Answer
   pub fault : Option Fault
 
 -- an action that has this fault, or prints this before the others
-abbrev pub answered : Option Fault → Output → Answers → Answers
-answered (Some f) output others = record { outputs = []; fault = Some f }
-answered None output others = record { outputs = output ∷ others.outputs; fault = others.fault }
+abbrev pub answered : Option Fault → Answer → ScriptAnswers → ScriptAnswers
+answered (Some f) answer others = record { answers = []; fault = Some f }
+answered None answer others = record { answers = answer ∷ others.answers; fault = others.fault }
 
 -- a statement that prints this, if it is an action, before the others
-abbrev pub answered_if : Loaded → ℕ → Option Output → Answers → Answers
+abbrev pub answered_if : Loaded → ℕ → Option Answer → ScriptAnswers → ScriptAnswers
 answered_if l s None others = others
-answered_if l s (Some output) others = answered (fault_of_action l s) output others
+answered_if l s (Some answer) others = answered (fault_of_action l s) answer others
 
 -- the answers of the statements from number s on
-abbrev pub answers_from : Loaded → ℕ → List CheckedStmt → Answers
-answers_from l s [] = record { outputs = []; fault = None }
+abbrev pub answers_from : Loaded → ℕ → List CheckedStmt → ScriptAnswers
+answers_from l s [] = record { answers = []; fault = None }
 answers_from l s (c ∷ checked) =
-    answered_if l s (output_of_stmt l.checked (plain_values l) c.stmt) (answers_from l (s + 1) checked)
+    answered_if l s (answer_of_stmt l.checked (plain_values l) c.stmt) (answers_from l (s + 1) checked)
 
 -- what a script prints
-abbrev pub answers_of_script : Loaded → Answers
+abbrev pub answers_of_script : Loaded → ScriptAnswers
 answers_of_script l = answers_from l 1 l.checked

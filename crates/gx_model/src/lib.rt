@@ -5,7 +5,7 @@
 //! knows partitions, indexes, masks, views, plans or schedules. The program makes no call of this
 //! crate. To add a statement, add its line in `value_of_stmt` (specs/Values.antt), in `faults_of_stmt`
 //! (specs/StmtFaults.antt) and in `names_used` (specs/NamesUsed.antt); for an action, its line in
-//! `output_of_stmt` (specs/Outputs.antt) too.
+//! `answer_of_stmt` (specs/ActionAnswers.antt) too.
 #![tactic(auto)]
 
 pub use gx_types_stmts::{CheckedStmt, TypedStmt};

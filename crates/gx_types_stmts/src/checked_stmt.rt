@@ -1,6 +1,7 @@
 //! A statement that was checked, with what it makes.
 
 use crate::{Made, TypedStmt};
+use sqlite_items::Items;
 
 /// A statement that was checked.
 #[derive(Drop)]
@@ -9,4 +10,6 @@ pub struct CheckedStmt {
     pub stmt: TypedStmt,
     /// The row types of what it makes.
     pub made: Made,
+    /// The numbers of the statements that it uses, in text order.
+    pub uses: Items<u32>,
 }

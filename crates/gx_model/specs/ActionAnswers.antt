@@ -13,7 +13,7 @@ use Rattle.gx_types_stmts.specs.declared.typed_stmt.TypedStmt.TheVariants as stm
 use Rattle.gx_model.specs.Graphs.{Graph, Vertex, plain_edges}
 use Rattle.gx_model.specs.Values.{value_named}
 
-pub record Output : Type 0 where
+pub record Answer : Type 0 where
   pub header : List (List ℕ)
   pub rows : List (List Value)
 
@@ -28,31 +28,31 @@ names_if columns = names_of (unwrap_or columns [])
 -- ---- what each action prints
 
 -- vertices by identifier
-abbrev pub vertices_output : Option (List Column) → List Vertex → Output
-vertices_output columns vertices = record {
+abbrev pub vertices_answer : Option (List Column) → List Vertex → Answer
+vertices_answer columns vertices = record {
   header = codes "id" ∷ names_if columns;
   rows = map (λ v. Int v.0.0 ∷ v.1) vertices;
 }
 
 -- edges in edge order
-abbrev pub edges_output : Option (List Column) → List Edge → Output
-edges_output columns edges = record {
+abbrev pub edges_answer : Option (List Column) → List Edge → Answer
+edges_answer columns edges = record {
   header = codes "src" ∷ codes "dst" ∷ names_if columns;
   rows = map (λ e. Int e.0.0 ∷ Int e.1.0 ∷ e.2) (edge_order_of edges);
 }
 
-abbrev pub count_output : ℕ → Output
-count_output n = record { header = codes "count" ∷ []; rows = (Int (pos n) ∷ []) ∷ [] }
+abbrev pub count_answer : ℕ → Answer
+count_answer n = record { header = codes "count" ∷ []; rows = (Int (pos n) ∷ []) ∷ [] }
 
 -- what a statement prints, by the row types and the values of those before it, if it is an action
-abbrev pub output_of_stmt : {Place : Type 0} → List CheckedStmt → List (Graph Place) → TypedStmt → Option Output
-output_of_stmt checked values (stmts.PrintVertices g) =
-    Some (vertices_output (made_named checked g).vertices (value_named values g).vertices)
-output_of_stmt checked values (stmts.PrintEdges g) =
-    Some (edges_output (made_named checked g).edges (plain_edges (value_named values g).edges))
-output_of_stmt checked values (stmts.PrintTable t) =
-    Some (vertices_output (made_named checked t).vertices (value_named values t).vertices)
-output_of_stmt checked values (stmts.CountVertices g) = Some (count_output (length (value_named values g).vertices))
-output_of_stmt checked values (stmts.CountEdges g) = Some (count_output (length (value_named values g).edges))
-output_of_stmt checked values (stmts.CountTable t) = Some (count_output (length (value_named values t).vertices))
-output_of_stmt checked values _ = None
+abbrev pub answer_of_stmt : {Place : Type 0} → List CheckedStmt → List (Graph Place) → TypedStmt → Option Answer
+answer_of_stmt checked values (stmts.PrintVertices g) =
+    Some (vertices_answer (made_named checked g).vertices (value_named values g).vertices)
+answer_of_stmt checked values (stmts.PrintEdges g) =
+    Some (edges_answer (made_named checked g).edges (plain_edges (value_named values g).edges))
+answer_of_stmt checked values (stmts.PrintTable t) =
+    Some (vertices_answer (made_named checked t).vertices (value_named values t).vertices)
+answer_of_stmt checked values (stmts.CountVertices g) = Some (count_answer (length (value_named values g).vertices))
+answer_of_stmt checked values (stmts.CountEdges g) = Some (count_answer (length (value_named values g).edges))
+answer_of_stmt checked values (stmts.CountTable t) = Some (count_answer (length (value_named values t).vertices))
+answer_of_stmt checked values _ = None

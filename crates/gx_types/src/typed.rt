@@ -1,0 +1,92 @@
+//! Scripts that are well typed.
+
+ghost use Rattle.std.specs.Prelude.{◌≡◌, ◌-◌, ◌<◌, ◌≤◌, ◌^◌, Some, length, option_map, slice_get, vec_len};
+ghost use Rattle.std.specs.Option.{option_copied};
+ghost use Rattle.gx_types.specs.Needs.{UseEarlier};
+
+use gx_rows::RowType;
+use gx_types_stmts::{CheckedStmt, SharedType, TypedStmt};
+use std::marker::Model;
+
+/// A script that is well typed. Contracts see it as the list of its statements, each of which uses
+/// earlier ones alone.
+#[derive(Drop)]
+pub struct Typed {
+    pub(crate) statements: Vec<CheckedStmt>,
+}
+
+impl Model for Typed {
+    ghost use Rattle.std.specs.Prelude.{List, ◌<◌, ◌^◌, vec_len};
+    ghost use Rattle.gx_types.specs.Needs.{UseEarlier};
+    ghost use Rattle.gx_types_stmts.specs.declared.checked_stmt.CheckedStmt.{CheckedStmt as Statement};
+
+    ghost use Rattle.gx_expr.specs.contracts.expr.Expr as expr;
+    ghost use Rattle.std.specs.Coded.{codes};
+
+    ghost Value = { List Statement };
+
+    ghost coded = { Prim.hlevel (codes, expr.the_row.coded) };
+
+    ghost view = { λ t. t.statements.items };
+
+    ghost invariant = { λ t. (vec_len t.statements < 2 ^ 32) × UseEarlier t.statements.items };
+}
+
+impl Typed {
+    /// The script of these statements. It takes no memory.
+    pub(crate) fn of(statements: Vec<CheckedStmt>) -> Typed
+        requires few { vec_len statements < 2 ^ 32 }
+        requires earlier { UseEarlier statements.items }
+        ensures { result ≡ statements.items }
+    {
+        Typed { statements }
+    }
+
+    /// The number of statements.
+    pub fn len(&self) -> u32
+        ensures count { result ≡ length self.now }
+        ensures few { length self.now < 2 ^ 32 }
+    {
+        self.statements.len() as u32
+    }
+
+    /// Statement `s`, counted from 1.
+    pub fn statement(&self, s: u32) -> &TypedStmt
+        requires from_one { 1 ≤ s }
+        requires within { s ≤ length self.now }
+        ensures { option_map (λ t. t.stmt) (slice_get self.now (s - 1)) ≡ Some result.now }
+    {
+        &self.statements[s as usize - 1].stmt
+    }
+
+    /// The row type of the table, or of the vertices of the graph, that statement `s` makes; `None`
+    /// exactly if it makes neither. Statements are counted from 1.
+    pub fn vertex_type(&self, s: u32) -> Option<&RowType>
+        requires from_one { 1 ≤ s }
+        requires within { s ≤ length self.now }
+        ensures { option_map (λ t. t.made.vertices) (slice_get self.now (s - 1))
+            ≡ Some (option_copied result) }
+    {
+        row_type_of(&self.statements[s as usize - 1].made.vertices)
+    }
+
+    /// The row type of the edges that statement `s` makes, alone or in a graph; `None` exactly if it
+    /// makes none. Statements are counted from 1.
+    pub fn edge_type(&self, s: u32) -> Option<&RowType>
+        requires from_one { 1 ≤ s }
+        requires within { s ≤ length self.now }
+        ensures { option_map (λ t. t.made.edges) (slice_get self.now (s - 1))
+            ≡ Some (option_copied result) }
+    {
+        row_type_of(&self.statements[s as usize - 1].made.edges)
+    }
+}
+
+fn row_type_of(shared: &Option<SharedType>) -> Option<&RowType>
+    ensures { option_copied result ≡ shared.now }
+{
+    match shared {
+        Some(shared) => Some(shared.get()),
+        None => None,
+    }
+}
