@@ -14,6 +14,7 @@ use gx_rows::{EvalStop, Fault, NoMemory, Row, RowKey, Value, Vid};
 use std::alloc::Global;
 
 // What an expression on a vertex may read.
+#[derive(Drop)]
 struct VertexScope<'a> {
     id: Vid,
     row: &'a Row,
