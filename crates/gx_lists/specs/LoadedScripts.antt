@@ -1,5 +1,5 @@
 -- Statements of a loaded script, and which of them have run.
-use Rattle.std.specs.Prelude.{◌≡◌, ℕ, ◌-◌, ◌≤◌, ⊤, Option, Some, None, List, [], ◌∷◌, length, replicate, slice_get}
+use Rattle.std.specs.Prelude.{◌≡◌, ℕ, ◌-◌, ◌≤◌, ⊤, Option, Some, None, List, [], ◌∷◌, length, slice_get}
 use Rattle.gx_model.specs.Graphs.{Graph}
 use Rattle.gx_model.specs.ScriptMeaning.{Loaded, fault_of_number, plain_values}
 use Rattle.gx_model.specs.Values.{value_named}
@@ -29,5 +29,6 @@ AllHaveRun values [] = ⊤
 AllHaveRun values (s ∷ stmts) = ((1 ≤ s) × HasRun values s) × AllHaveRun values stmts
 
 -- so many statements, and no value of one
-abbrev pub HasNoValues : ℕ → List (Option PlainGraph) → Type 0
-HasNoValues count values = values ≡ replicate count None
+pub record HasNoValues (len : ℕ) (values : List (Option PlainGraph)) : Type 0 where
+  pub count : length values ≡ len
+  pub none : (i : ℕ) (g : PlainGraph) → slice_get values i ≡ Some (Some g) → ⊥

@@ -1,6 +1,5 @@
 -- What a run of a statement returns.
 use Rattle.std.specs.Prelude.{◌≡◌, ℕ, List, Option, Some, None, Result, Ok, Err, ⊤}
-use Rattle.std.specs.declared.vec.Vec.{Vec}
 use Rattle.gx_rows.specs.declared.cause.Cause.{Cause}
 use Rattle.gx_rows.specs.declared.eval_stop.EvalStop.{EvalStop}
 use Rattle.gx_rows.specs.declared.eval_stop.EvalStop.TheVariants as eval_stop
@@ -12,16 +11,10 @@ use Rattle.gx_lists.specs.declared.run_stop.RunStop.{RunStop}
 use Rattle.gx_lists.specs.declared.run_stop.RunStop.TheVariants as stop
 
 -- the value, if there is no fault, or else the fault; memory may run out instead
-abbrev pub RunsTo : {A : Type 0} → Result A RunStop → A → Option Fault → Type 0
-RunsTo (Ok x) value fault = (x ≡ value) × (fault ≡ None)
-RunsTo (Err (stop.Fault f)) value fault = fault ≡ Some f
-RunsTo (Err stop.NoMemory) value fault = ⊤
-
--- the same of a list of vertices
-abbrev pub RunsToItems : {X : Type 0} → Result (Vec X) RunStop → List X → Option Fault → Type 0
-RunsToItems (Ok xs) value fault = (xs.items ≡ value) × (fault ≡ None)
-RunsToItems (Err (stop.Fault f)) value fault = fault ≡ Some f
-RunsToItems (Err stop.NoMemory) value fault = ⊤
+abbrev pub RunsTo : {A B : Type 0} → (A → B) → Result A RunStop → B → Option Fault → Type 0
+RunsTo view (Ok x) value fault = (view x ≡ value) × (fault ≡ None)
+RunsTo view (Err (stop.Fault f)) value fault = fault ≡ Some f
+RunsTo view (Err stop.NoMemory) value fault = ⊤
 
 -- why an expression gave no value on a vertex, as the stop of statement s
 abbrev pub stop_on_vertex : ℕ → Vid → EvalStop → RunStop

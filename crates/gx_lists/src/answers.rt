@@ -3,6 +3,7 @@
 ghost use Rattle.std.specs.Prelude.{◌≡◌, ◌<◌, ◌^◌, ◌∷◌, ◌++◌, IfOk, OnOk, map};
 ghost use Rattle.std.specs.Option.{option_copied};
 ghost use Rattle.gx_rows.specs.declared.value.Value.TheVariants.{Int};
+ghost use Rattle.gx_rows.specs.Columns.{names_of};
 ghost use Rattle.gx_epart.specs.Edges.{edge_order_of};
 ghost use Rattle.gx_model.specs.ActionAnswers.{
   count_answer as answer_with_count,
@@ -10,7 +11,7 @@ ghost use Rattle.gx_model.specs.ActionAnswers.{
   names_if,
   vertices_answer as answer_with_vertices,
 };
-ghost use Rattle.gx_lists.specs.AnswerLists.{answer_record, rows_of_edges};
+ghost use Rattle.gx_lists.specs.AnswerLists.{answer_record, rows_of_edges, rows_of_vertices};
 
 use crate::answer::Answer;
 use crate::loads::append;
@@ -30,12 +31,7 @@ pub(crate) fn vertices_answer(
     let mut header = Vec::new(alloc);
     append(&mut header, Text::of(alloc, "id")?)?;
     append_names(alloc, &mut header, columns)?;
-    let mut rows = Vec::with_capacity(alloc, vertices.len())?;
-    let mut rest = vertices;
-    while let [vertex, after @ ..] = rest {
-        append(&mut rows, vertex_row(alloc, vertex)?)?;
-        rest = after;
-    }
+    let rows = vertex_rows(alloc, vertices)?;
     Ok(Answer { header, rows })
 }
 
@@ -53,7 +49,7 @@ pub(crate) fn edges_answer(
     append(&mut header, Text::of(alloc, "dst")?)?;
     append_names(alloc, &mut header, columns)?;
     let ordered = in_edge_order(alloc, edges)?;
-    let rows = rows_of(alloc, ordered.as_slice())?;
+    let rows = edge_rows(alloc, ordered.as_slice())?;
     Ok(Answer { header, rows })
 }
 
@@ -79,13 +75,31 @@ fn append_names(
 ) -> Result<(), NoMemory>
     ensures { OnOk result (header.new.items ≡ header.old.items ++ names_if (option_copied columns.entry)) }
 {
-    let Some(columns) = columns else {
-        return Ok(());
-    };
+    match columns {
+        Some(columns) => append_columns(alloc, header, columns),
+        None => Ok(()),
+    }
+}
+
+fn append_columns(alloc: Global, header: &mut Vec<Text>, columns: &RowType) -> Result<(), NoMemory>
+    ensures { OnOk result (header.new.items ≡ header.old.items ++ names_of columns.now) }
+{
     for i in 0..columns.len() {
         append(header, Text::of(alloc, columns.name(i))?)?;
     }
     Ok(())
+}
+
+fn vertex_rows(alloc: Global, vertices: &[(Vid, Row)]) -> Result<Vec<Vec<Value>>, NoMemory>
+    ensures { IfOk result (λ rows. map (λ row. row.items) rows.items ≡ rows_of_vertices vertices.now) }
+{
+    let mut rows = Vec::with_capacity(alloc, vertices.len())?;
+    let mut rest = vertices;
+    while let [vertex, after @ ..] = rest {
+        append(&mut rows, vertex_row(alloc, vertex)?)?;
+        rest = after;
+    }
+    Ok(rows)
 }
 
 fn vertex_row(alloc: Global, vertex: &(Vid, Row)) -> Result<Vec<Value>, NoMemory>
@@ -133,10 +147,11 @@ fn in_edge_order<'a>(
         append(&mut ordered, edge)?;
     }
     ordered.sort_unstable();
+    edge_order_is_unique();
     Ok(ordered)
 }
 
-fn rows_of(alloc: Global, edges: &[&(Vid, Vid, Row)]) -> Result<Vec<Vec<Value>>, NoMemory>
+fn edge_rows(alloc: Global, edges: &[&(Vid, Vid, Row)]) -> Result<Vec<Vec<Value>>, NoMemory>
     ensures { IfOk result (λ rows. map (λ row. row.items) rows.items ≡ rows_of_edges (map (λ e. e.now) edges.now)) }
 {
     let mut rows = Vec::with_capacity(alloc, edges.len())?;

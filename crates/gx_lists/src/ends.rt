@@ -1,12 +1,13 @@
 //! The ends of edges that a table does not have.
 
-ghost use Rattle.std.specs.Prelude.{◌≡◌, ◌++◌, IfOk, map};
+ghost use Rattle.std.specs.Prelude.{◌≡◌, ◌∷◌, ◌++◌, [], if◌then◌else◌, IfOk, OnOk, map};
 ghost use Rattle.std.specs.Map.{keys_of};
 ghost use Rattle.gx_index.specs.Ends.{IsSetOf};
 ghost use Rattle.gx_index.specs.Ids.{IsAscending};
 ghost use Rattle.gx_model.specs.Graphs.{ends_in_edges, table_of_rows};
 ghost use Rattle.gx_lists.specs.MissingEnds.{IsMissing, begins_with_id, ids_without_row, vertices_not_below};
 
+use crate::list_graph::{ListGraph, Vertices};
 use crate::loads::append;
 use crate::tables::{append_ids, table_of};
 use gx_index::IdSet;
@@ -60,13 +61,9 @@ fn without_row(
 {
     let mut missing = Vec::new(alloc);
     let mut left = vertices;
-    let mut rest = ids;
-    while let [id, after @ ..] = rest {
+    for id in ids {
         left = not_below(*id, left);
-        if !begins_with(left, *id) {
-            append(&mut missing, *id)?;
-        }
-        rest = after;
+        append_unless_first(&mut missing, *id, left)?;
     }
     Ok(missing)
 }
@@ -85,6 +82,21 @@ fn not_below(id: Vid, vertices: &[(Vid, Row)]) -> &[(Vid, Row)]
     rest
 }
 
+// One more identifier, unless it is that of the first vertex.
+fn append_unless_first(
+    ids: &mut Vec<Vid>,
+    id: Vid,
+    vertices: &[(Vid, Row)],
+) -> Result<(), NoMemory>
+    ensures { OnOk result (ids.new.items
+        ≡ (if begins_with_id id vertices.now then ids.old.items else ids.old.items ++ id ∷ [])) }
+{
+    if begins_with(vertices, id) {
+        return Ok(());
+    }
+    append(ids, id)
+}
+
 fn begins_with(vertices: &[(Vid, Row)], id: Vid) -> bool
     ensures { result ≡ begins_with_id id vertices.now }
 {
@@ -94,31 +106,29 @@ fn begins_with(vertices: &[(Vid, Row)], id: Vid) -> bool
     }
 }
 
-/// The vertices, and the missing ones with this row. If none is missing, the list is shared.
+/// The vertices of a table, and the missing ones with this row. If none is missing, the list is
+/// shared.
 pub(crate) fn vertices_with(
     alloc: Global,
-    vertices: &Rc<Vec<(Vid, Row)>>,
+    table: &ListGraph,
     missing: &[Vid],
     row: &Row,
-) -> Result<Rc<Vec<(Vid, Row)>>, NoMemory>
-    requires { IsAscending (keys_of vertices.now.value.items) }
+) -> Result<Rc<Vertices>, NoMemory>
     ensures exact { IfOk result (λ all. all.value.items
-        ≡ table_of_rows (vertices.now.value.items ++ map (λ id. (id, row.now)) missing.now)) }
+        ≡ table_of_rows (table.now.vertices ++ map (λ id. (id, row.now)) missing.now)) }
     ensures ascending { IfOk result (λ all. IsAscending (keys_of all.value.items)) }
 {
     if missing.is_empty() {
-        return Ok(vertices.clone()?);
+        let _ascending = table.vertices();
+        return table.shared_vertices();
     }
-    let mut all = copies(alloc, vertices.as_slice())?;
+    let mut all = copies(alloc, table.vertices())?;
     append_ids(&mut all, missing, row)?;
     Ok(Rc::new(alloc, table_of(all)?)?)
 }
 
 // The same vertices.
-fn copies(
-    alloc: Global,
-    vertices: &[(Vid, Row)],
-) -> Result<Vec<(Vid, Row)>, NoMemory>
+fn copies(alloc: Global, vertices: &[(Vid, Row)]) -> Result<Vertices, NoMemory>
     ensures { IfOk result (λ vs. vs.items ≡ vertices.now) }
 {
     let mut copies = Vec::with_capacity(alloc, vertices.len())?;

@@ -115,7 +115,7 @@ fn no_values(alloc: Global, len: u32) -> Result<Vec<Option<ListGraph>>, NoMemory
     ensures { IfOk result (λ values. HasNoValues len values.items) }
 {
     let mut values = Vec::with_capacity(alloc, len as usize)?;
-    for _ in 0..len {
+    for _statement in 0..len {
         append(&mut values, None)?;
     }
     Ok(values)

@@ -26,10 +26,10 @@ pub(crate) fn force_all(
     ensures exact { ForcesTo result (fault_among script.now stmts.now) }
     ensures all_have_run { OnOk result (AllHaveRun values.new.items stmts.now) }
 {
-    let mut rest = stmts;
-    while let [s, after @ ..] = rest {
-        force(alloc, script, values, *s)?;
-        rest = after;
+    for s in stmts {
+        if let Err(stop) = force(alloc, script, values, *s) {
+            return Err(stop);
+        }
     }
     Ok(())
 }
@@ -50,9 +50,10 @@ fn force(
     ensures has_run { OnOk result (HasRun values.new.items s) }
 {
     let i = s as usize - 1;
-    if values[i].is_none() {
-        let graph = run_stmt(alloc, script, values.as_slice(), s)?;
-        values[i] = Some(graph);
+    if values[i].is_some() {
+        return Ok(());
     }
+    let graph = run_stmt(alloc, script, values.as_slice(), s)?;
+    values[i] = Some(graph);
     Ok(())
 }

@@ -8,8 +8,8 @@
 //! for what everything means; the top call is built on it. It never sees a file, a text of a script
 //! or a partition.
 //!
-//! To run one more statement, add its arm in `run_stmt` (step.rt), with a constructor of `ListGraph`
-//! in the file of the statement's family; an action is an arm of `answer_of` (actions.rt).
+//! To run one more statement, add its arm in `run` (step.rt), with a function in the file of
+//! the statement's family; an action is an arm of `answer_of` (actions.rt).
 #![tactic(auto)]
 
 mod actions;
@@ -18,6 +18,7 @@ mod answers;
 mod engine;
 mod ends;
 mod forcing;
+mod graphs;
 mod list_graph;
 mod loaded_script;
 mod loads;

@@ -7,17 +7,20 @@ ghost use Rattle.std.specs.Prelude.{
   ◌≤◌,
   ◌^◌,
   All,
+  [],
   IfOk,
   Some,
   length,
   slice_get,
 };
+ghost use Rattle.std.specs.List.{AllByRecursion};
 ghost use Rattle.std.specs.Option.{option_copied};
 ghost use Rattle.gx_model.specs.ActionAnswers.{made_named};
-ghost use Rattle.gx_model.specs.NamesUsed.{NamesAreUsed, stmts_used};
+ghost use Rattle.gx_model.specs.NamesUsed.{NamesAreUsed, names_of_number, names_of_stmt, stmts_used};
 ghost use Rattle.gx_model.specs.ScriptMeaning.{stmts_in};
 ghost use Rattle.gx_model.specs.Values.{rows_loaded};
-ghost use Rattle.gx_types.specs.Needs.{UseEarlier};
+ghost use Rattle.gx_types.specs.Needs.{IsEarlier, UseEarlier};
+ghost use Rattle.gx_lists.specs.Forcing.{AllAmong, MayRunInOrder};
 ghost use Rattle.gx_lists.specs.LoadedScripts.{IsInScript};
 
 use gx_load::Loads;
@@ -64,8 +67,6 @@ impl LoadedScript {
     pub(crate) fn len(&self) -> u32
         ensures count { result ≡ length self.now.checked }
         ensures few { length self.now.checked < 2 ^ 32 }
-        ensures earlier { UseEarlier self.now.checked }
-        ensures names_used { All NamesAreUsed self.now.checked }
     {
         self.typed.len()
     }
@@ -73,7 +74,8 @@ impl LoadedScript {
     /// Statement `s`, counted from 1.
     pub(crate) fn statement(&self, s: u32) -> &TypedStmt
         requires { IsInScript self.now s }
-        ensures { slice_get (stmts_in self.now) (s - 1) ≡ Some result.now }
+        ensures stmt { slice_get (stmts_in self.now) (s - 1) ≡ Some result.now }
+        ensures names_are_earlier { AllByRecursion (IsEarlier (s - 1)) (names_of_stmt result.now) }
     {
         self.typed.statement(s)
     }
@@ -110,7 +112,10 @@ impl LoadedScript {
     /// The statements that statement `s` uses, directly or through others, ascending.
     pub(crate) fn needs(&self, s: u32) -> Result<Vec<u32>, NoMemory>
         requires { IsInScript self.now s }
-        ensures { IfOk result (λ needs. needs.items ≡ stmts_used self.now.checked s) }
+        ensures exact { IfOk result (λ needs. needs.items ≡ stmts_used self.now.checked s) }
+        ensures in_order { IfOk result (λ needs. MayRunInOrder self.now [] needs.items) }
+        ensures names { IfOk result (λ needs.
+            AllAmong needs.items (names_of_number (stmts_in self.now) s)) }
     {
         self.typed.needs(s)
     }

@@ -5,13 +5,15 @@ ghost use Rattle.std.specs.Map.{keys_of};
 ghost use Rattle.gx_index.specs.Ids.{IsAscending, id_cmp};
 ghost use Rattle.gx_model.specs.StmtFaults.{fault_on_vertex, faults_on_vertices, least_fault};
 ghost use Rattle.gx_model.specs.Values.{mapped_vertices, vertex_row_result};
-ghost use Rattle.gx_lists.specs.Runs.{IsNewRow, RunsToItems, stop_on_vertex};
+ghost use Rattle.gx_lists.specs.Runs.{IsNewRow, RunsTo, stop_on_vertex};
 
+use crate::list_graph::{ListGraph, Vertices};
 use crate::loads::append;
 use crate::run_stop::RunStop;
 use gx_expr::{Expr, Scope, Side, eval_row};
 use gx_rows::{EvalStop, Fault, NoMemory, Row, RowKey, Value, Vid};
 use std::alloc::Global;
+use std::rc::Rc;
 
 // What an expression on a vertex may read.
 #[derive(Drop)]
@@ -44,30 +46,62 @@ impl Scope for VertexScope<'_> {
     }
 }
 
-/// The vertices, which ascend, each with its new row, the values of `sets`.
+/// The graph with a new row for each vertex, the values of `sets`. The edges are shared.
 ///
 /// # Errors
 ///
 /// The fault of the least vertex that has one, as one of statement `s`; `NoMemory`, also if there
 /// are 2^32 columns or more.
-pub(crate) fn mapped_rows(
+pub(crate) fn map_vertices(
+    alloc: Global,
+    s: u32,
+    graph: &ListGraph,
+    sets: &[Expr],
+) -> Result<ListGraph, RunStop>
+    ensures { RunsTo (λ g. g) result
+        (record {
+          vertices = mapped_vertices sets.now graph.now.vertices;
+          edges = graph.now.edges;
+        })
+        (option_map (fault_on_vertex s)
+        (least_fault id_cmp (faults_on_vertices (vertex_row_result sets.now) graph.now.vertices))) }
+{
+    let vertices = mapped_rows(alloc, s, graph.vertices(), sets)?;
+    Ok(with_vertices(alloc, graph, vertices)?)
+}
+
+// The graph with other vertices. The edges are shared.
+fn with_vertices(
+    alloc: Global,
+    graph: &ListGraph,
+    vertices: Vertices,
+) -> Result<ListGraph, NoMemory>
+    requires { IsAscending (keys_of vertices.items) }
+    ensures { IfOk result (λ g. g ≡ record { vertices = vertices.items; edges = graph.now.edges }) }
+{
+    let vertices = Rc::new(alloc, vertices)?;
+    Ok(ListGraph::of(vertices, graph.shared_edges()?))
+}
+
+// The vertices, which ascend, each with its new row.
+fn mapped_rows(
     alloc: Global,
     s: u32,
     vertices: &[(Vid, Row)],
     sets: &[Expr],
-) -> Result<Vec<(Vid, Row)>, RunStop>
+) -> Result<Vertices, RunStop>
     requires { IsAscending (keys_of vertices.now) }
-    ensures exact { RunsToItems result (mapped_vertices sets.now vertices.now)
+    ensures exact { RunsTo (λ vs. vs.items) result (mapped_vertices sets.now vertices.now)
         (option_map (fault_on_vertex s)
         (least_fault id_cmp (faults_on_vertices (vertex_row_result sets.now) vertices.now))) }
     ensures ascending { IfOk result (λ mapped. IsAscending (keys_of mapped.items)) }
 {
     let mut mapped = Vec::with_capacity(alloc, vertices.len()).map_err(|_| NoMemory)?;
-    let mut rest = vertices;
-    while let [vertex, after @ ..] = rest {
-        let row = new_row(alloc, s, vertex, sets)?;
-        append(&mut mapped, (vertex.0, row))?;
-        rest = after;
+    for vertex in vertices {
+        match new_row(alloc, s, vertex, sets) {
+            Ok(row) => append(&mut mapped, (vertex.0, row))?,
+            Err(stop) => return Err(stop),
+        }
     }
     Ok(mapped)
 }

@@ -21,7 +21,7 @@ pub(crate) fn table_of(mut rows: Vec<(Vid, Row)>) -> Result<Vec<(Vid, Row)>, NoM
 }
 
 /// The ends of these edges, ascending, each with this row.
-pub(crate) fn table_of_ids(
+pub(crate) fn table_of_ends(
     alloc: Global,
     edges: &[(Vid, Vid, Row)],
     row: &Row,

@@ -10,7 +10,7 @@ use Rattle.gx_types_stmts.specs.declared.checked_stmt.CheckedStmt.{CheckedStmt}
 use Rattle.gx_model.specs.NamesUsed.{stmts_used, stmts_wanted}
 use Rattle.gx_model.proofs.NumberLists.{Ascends, Ascends-append, Ascends-from_adjacent, IsIn, all_append, all_at, all_map, among_from_in, in_either, in_from_among, in_from_any, in_left, in_right, not_in_from_any, same_ascending}
 
-item_at : {X : Type 0} (xs : List X) (i : ℕ) → i < length xs → (x : X) × (slice_get xs i ≡ Some x)
+pub item_at : {X : Type 0} (xs : List X) (i : ℕ) → i < length xs → (x : X) × (slice_get xs i ≡ Some x)
 item_at [] i within = absurd (omega arith)
 item_at (x ∷ xs) zero within = (x, refl)
 item_at (x ∷ xs) (suc i) within = item_at xs i (omega arith)
@@ -46,7 +46,7 @@ module _ (checked : List CheckedStmt) (earlier : UseEarlier checked) where
       by k c wanted at rest true e = more k c wanted (used_from k (wanted ++ c.uses)) at (in_from_any (k + 1) wanted e) (rest (wanted ++ c.uses))
       by k c wanted at rest false e = skip k c wanted (used_from k wanted) at (not_in_from_any (k + 1) wanted e) (rest wanted)
 
-  uses_are_earlier : (k : ℕ) (c : CheckedStmt) (u : ℕ) → slice_get checked k ≡ Some c → IsIn u c.uses → IsEarlier k u
+  pub uses_are_earlier : (k : ℕ) (c : CheckedStmt) (u : ℕ) → slice_get checked k ≡ Some c → IsIn u c.uses → IsEarlier k u
   uses_are_earlier k c u at is_in = all_at (IsEarlier k) u c.uses (recursion_from_All (IsEarlier k) c.uses (earlier k c at)) is_in
 
   -- of the first k statements, ascending: those that are wanted, with all that they use
