@@ -36,18 +36,18 @@ IsMappedSoFar-more sets vertices mapped left v after row new el er en so_far =
     record {
       left_ascends = ascends.1;
       ids = ap (λ vs. keys_of vs ++ keys_of after) en
-        ∙ ap (λ ids. ids ++ keys_of after) (keys-append mapped ((v.0, row) ∷ []))
-        ∙ append_assoc (keys_of mapped) (v.0 ∷ []) (keys_of after)
-        ∙ ap (λ vs. keys_of mapped ++ keys_of vs) (sym el)
-        ∙ so_far.ids;
+          ∙ ap (λ ids. ids ++ keys_of after) (keys-append mapped ((v.0, row) ∷ []))
+          ∙ append_assoc (keys_of mapped) (v.0 ∷ []) (keys_of after)
+          ∙ ap (λ vs. keys_of mapped ++ keys_of vs) (sym el)
+          ∙ so_far.ids;
       rows = ap (λ vs. vs ++ mapped_vertices sets after) en
-        ∙ append_assoc mapped ((v.0, row) ∷ []) (mapped_vertices sets after)
-        ∙ ap (λ r. mapped ++ cons_option (vertex_if v.0 (result_ok r)) (mapped_vertices sets after)) (sym er)
-        ∙ ap (λ vs. mapped ++ mapped_vertices sets vs) (sym el)
-        ∙ so_far.rows;
+          ∙ append_assoc mapped ((v.0, row) ∷ []) (mapped_vertices sets after)
+          ∙ ap (λ r. mapped ++ cons_option (vertex_if v.0 (result_ok r)) (mapped_vertices sets after)) (sym er)
+          ∙ ap (λ vs. mapped ++ mapped_vertices sets vs) (sym el)
+          ∙ so_far.rows;
       fault = ap (λ r. least_fault id_cmp (cons_option (key_fault_if v.0 r) (faults_on_vertices (vertex_row_result sets) after))) (sym er)
-        ∙ ap (λ vs. least_fault id_cmp (faults_on_vertices (vertex_row_result sets) vs)) (sym el)
-        ∙ so_far.fault;
+          ∙ ap (λ vs. least_fault id_cmp (faults_on_vertices (vertex_row_result sets) vs)) (sym el)
+          ∙ so_far.fault;
     }
 
 -- the first vertex that is left has a fault: it is the least of all
@@ -57,8 +57,8 @@ pub stops_at_least : (A : Type 0) (view : A → List Vertex) (s : ℕ) (sets : L
 stops_at_least A view s sets vertices mapped left v after (stop.Fault f) el stops so_far =
     let ascends : IsAscending (keys_of (v ∷ after)) = subst (λ vs. IsAscending (keys_of vs)) el so_far.left_ascends in
     ap (option_map (fault_on_vertex s))
-      (sym so_far.fault
-      ∙ ap (λ vs. least_fault id_cmp (faults_on_vertices (vertex_row_result sets) vs)) el
-      ∙ least_fault-first (vertex_row_result sets) v after (f.cause, f.expr) ascends stops.0)
+    (sym so_far.fault
+    ∙ ap (λ vs. least_fault id_cmp (faults_on_vertices (vertex_row_result sets) vs)) el
+    ∙ least_fault-first (vertex_row_result sets) v after (f.cause, f.expr) ascends stops.0)
     ∙ ap Some (sym stops.1)
 stops_at_least A view s sets vertices mapped left v after stop.NoMemory el stops so_far = tt

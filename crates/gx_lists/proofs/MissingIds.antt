@@ -71,6 +71,7 @@ has_id-begins_with id (v ∷ vertices) ascending = by (is_lt (id_cmp v.0 id)) re
     first Greater e low =
         let less : id_cmp id v.0 ≡ Less = id_cmp-total.antisymm id v.0 ∙ ap ordering_reverse e in
         rw (less_is_apart id v.0 less) (apart_from_above id vertices (below_all id v.0 (keys_of vertices) less ascending.0))
+
     by : (b : Bool) → is_lt (id_cmp v.0 id) ≡ b → has_id id (keys_of (vertices_not_below id vertices)) ≡ begins_with_id id (vertices_not_below id vertices)
         → has_id id (keys_of (cond b (vertices_not_below id vertices) (v ∷ vertices))) ≡ begins_with_id id (cond b (vertices_not_below id vertices) (v ∷ vertices))
     by true e rest = rest
@@ -112,17 +113,17 @@ IsSiftedSoFar-more vertices ids left rest missing id after new_left new_missing 
     let ascends : IsAscending (id ∷ after) = subst IsAscending er so_far.rest_ascends in
     let below = vertices_not_below id left in
     let found : has_id id (keys_of left) ≡ begins_with_id id below =
-      sym (has_id-not_below id id left (λ v less. less)) ∙ has_id-begins_with id left so_far.left_ascends in
+    sym (has_id-not_below id id left (λ v less. less)) ∙ has_id-begins_with id left so_far.left_ascends in
     record {
       left_ascends = subst (λ vs. IsAscending (keys_of vs)) (sym el) (IsAscending-not_below id left so_far.left_ascends);
       rest_ascends = ascends.1;
       same = ap (λ vs. new_missing ++ ids_without_row vs after) el
-        ∙ ap (λ ms. ms ++ ids_without_row below after) (em ∙ ap (λ vs. cond (begins_with_id id vs) missing (missing ++ id ∷ [])) el)
-        ∙ append_unless (begins_with_id id below) missing id (ids_without_row below after)
-        ∙ ap (λ b. missing ++ cond (not b) (id ∷ ids_without_row below after) (ids_without_row below after)) (sym found)
-        ∙ ap (λ xs. missing ++ cond (not (has_id id (keys_of left))) (id ∷ xs) xs) (without_row-not_below id left after ascends.0)
-        ∙ ap (λ qs. missing ++ ids_without_row left qs) (sym er)
-        ∙ so_far.same;
+          ∙ ap (λ ms. ms ++ ids_without_row below after) (em ∙ ap (λ vs. cond (begins_with_id id vs) missing (missing ++ id ∷ [])) el)
+          ∙ append_unless (begins_with_id id below) missing id (ids_without_row below after)
+          ∙ ap (λ b. missing ++ cond (not b) (id ∷ ids_without_row below after) (ids_without_row below after)) (sym found)
+          ∙ ap (λ xs. missing ++ cond (not (has_id id (keys_of left))) (id ∷ xs) xs) (without_row-not_below id left after ascends.0)
+          ∙ ap (λ qs. missing ++ ids_without_row left qs) (sym er)
+          ∙ so_far.same;
     }
 
 -- ---- what was found

@@ -27,8 +27,10 @@ before_first ns s ms n ascends is_in less =
   where
     apart : n ≡ s → ⊥
     apart e = omega arith
+
     above : s < n → ⊥
     above more = omega arith
+
     not_late : Ascends (s ∷ ms) → IsIn n (s ∷ ms) → ⊥
     not_late a (inl e) = apart e
     not_late a (inr later) = above (all_at (λ m. s < m) n ms a.0 later)
@@ -40,12 +42,13 @@ in_order : (l : Loaded) (before left : List ℕ) → Ascends (before ++ left) �
 in_order l before [] ascends in_script named = tt
 in_order l before (s ∷ left) ascends in_script named =
     let here = in_right s before (s ∷ left) (inl refl) in
-    let e : (before ++ s ∷ []) ++ left ≡ before ++ s ∷ left = append_assoc before (s ∷ []) left in
-    ((in_script s here, AllAmong-from before (names_of_number (stmts_in l) s) (λ u is_in. let at = named s u here is_in in before_first before s left u ascends at.0 at.1)),
-    in_order l (before ++ s ∷ []) left
-    (subst Ascends (sym e) ascends)
-    (subst (λ ns. (n : ℕ) → IsIn n ns → IsInScript l n) (sym e) in_script)
-    (subst (λ ns. (n u : ℕ) → IsIn n ns → IsIn u (names_of_number (stmts_in l) n) → IsIn u ns × (u < n)) (sym e) named))
+    let e : (before ++ s ∷ []) ++ left ≡ before ++ s ∷ left = append_assoc before (s ∷ []) left in (
+      (in_script s here, AllAmong-from before (names_of_number (stmts_in l) s) (λ u is_in. let at = named s u here is_in in before_first before s left u ascends at.0 at.1)),
+      in_order l (before ++ s ∷ []) left
+          (subst Ascends (sym e) ascends)
+          (subst (λ ns. (n : ℕ) → IsIn n ns → IsInScript l n) (sym e) in_script)
+          (subst (λ ns. (n u : ℕ) → IsIn n ns → IsIn u (names_of_number (stmts_in l) n) → IsIn u ns × (u < n)) (sym e) named),
+    )
 
 module _ (l : Loaded) (earlier : UseEarlier l.checked) (named : All NamesAreUsed l.checked) where
   -- what a statement names is among what it uses

@@ -21,8 +21,10 @@ run_is l s stmt r from_one at earlier runs = by r runs
   where
     value : value_named (plain_values l) s ≡ value_of_stmt (λ n e. tt) l.loads (plain_values l) s stmt
     value = value_named-stmt (λ n e. tt) l.loads (stmts_in l) s stmt from_one at earlier
+
     fault : fault_of_number l s ≡ fault_of_stmt (plain_values l) s stmt
     fault = ap (option_and_then (fault_of_stmt (plain_values l) s)) at
+
     by : (r : Result PlainGraph RunStop) → RunsTo (λ g. g) r (value_of_stmt (λ n e. tt) l.loads (plain_values l) s stmt) (fault_of_stmt (plain_values l) s stmt)
         → RunsTo (λ g. g) r (value_named (plain_values l) s) (fault_of_number l s)
     by (Ok g) runs = (runs.0 ∙ sym value, fault ∙ runs.1)

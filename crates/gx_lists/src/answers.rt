@@ -135,20 +135,30 @@ fn append_values(row: &mut Vec<Value>, values: &[Value]) -> Result<(), NoMemory>
     Ok(())
 }
 
-// The edges in edge order. They are borrowed.
+// The edges in edge order, borrowed.
 fn in_edge_order<'a>(
     alloc: Global,
     edges: &'a [(Vid, Vid, Row)],
 ) -> Result<Vec<&'a (Vid, Vid, Row)>, NoMemory>
     ensures { IfOk result (λ es. map (λ e. e.now) es.items ≡ edge_order_of edges.now) }
 {
-    let mut ordered = Vec::with_capacity(alloc, edges.len())?;
-    for edge in edges {
-        append(&mut ordered, edge)?;
-    }
+    let mut ordered = references(alloc, edges)?;
     ordered.sort_unstable();
     edge_order_is_unique();
     Ok(ordered)
+}
+
+fn references<'a>(
+    alloc: Global,
+    edges: &'a [(Vid, Vid, Row)],
+) -> Result<Vec<&'a (Vid, Vid, Row)>, NoMemory>
+    ensures { IfOk result (λ es. map (λ e. e.now) es.items ≡ edges.now) }
+{
+    let mut references = Vec::with_capacity(alloc, edges.len())?;
+    for edge in edges {
+        append(&mut references, edge)?;
+    }
+    Ok(references)
 }
 
 fn edge_rows(alloc: Global, edges: &[&(Vid, Vid, Row)]) -> Result<Vec<Vec<Value>>, NoMemory>

@@ -26,7 +26,7 @@ pub(crate) fn end_set(alloc: Global, edges: &[(Vid, Vid, Row)]) -> Result<IdSet,
 fn ids_of_ends(alloc: Global, edges: &[(Vid, Vid, Row)]) -> Result<Vec<Vid>, NoMemory>
     ensures { IfOk result (λ ids. ids.items ≡ ends_in_edges edges.now) }
 {
-    let mut ids = Vec::new(alloc);
+    let mut ids = Vec::with_capacity(alloc, 2 * edges.len())?;
     let mut rest = edges;
     while let [edge, after @ ..] = rest {
         append(&mut ids, edge.0)?;
@@ -50,11 +50,7 @@ pub(crate) fn missing_ends(
 }
 
 // The identifiers that are no vertices. Both lists are walked once.
-fn without_row(
-    alloc: Global,
-    vertices: &[(Vid, Row)],
-    ids: &[Vid],
-) -> Result<Vec<Vid>, NoMemory>
+fn without_row(alloc: Global, vertices: &[(Vid, Row)], ids: &[Vid]) -> Result<Vec<Vid>, NoMemory>
     requires vertices_ascend { IsAscending (keys_of vertices.now) }
     requires ids_ascend { IsAscending ids.now }
     ensures { IfOk result (λ missing. missing.items ≡ ids_without_row vertices.now ids.now) }
@@ -83,11 +79,7 @@ fn not_below(id: Vid, vertices: &[(Vid, Row)]) -> &[(Vid, Row)]
 }
 
 // One more identifier, unless it is that of the first vertex.
-fn append_unless_first(
-    ids: &mut Vec<Vid>,
-    id: Vid,
-    vertices: &[(Vid, Row)],
-) -> Result<(), NoMemory>
+fn append_unless_first(ids: &mut Vec<Vid>, id: Vid, vertices: &[(Vid, Row)]) -> Result<(), NoMemory>
     ensures { OnOk result (ids.new.items
         ≡ (if begins_with_id id vertices.now then ids.old.items else ids.old.items ++ id ∷ [])) }
 {

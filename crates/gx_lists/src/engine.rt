@@ -1,6 +1,6 @@
 //! The engine: it answers the actions of a script.
 
-ghost use Rattle.std.specs.Prelude.{◌≡◌, ◌↔◌, All, IfOk, IsSome, IsTrue};
+ghost use Rattle.std.specs.Prelude.{◌≡◌, ◌<◌, ◌^◌, ◌↔◌, All, IfOk, IsSome, IsTrue, length};
 ghost use Rattle.gx_model.specs.NamesUsed.{NamesAreUsed};
 ghost use Rattle.gx_types.specs.Needs.{UseEarlier};
 ghost use Rattle.gx_lists.specs.AnswerLists.{IsAnswerOf, action_answer};
@@ -33,7 +33,6 @@ pub struct ListEngine {
 impl Model for ListEngine {
     ghost use Rattle.gx_model.specs.ScriptMeaning.{Loaded};
     ghost use Rattle.gx_lists.specs.LoadedScripts.{HasValues};
-
     ghost use Rattle.gx_expr.specs.contracts.expr.Expr as expr;
     ghost use Rattle.std.specs.Coded.{codes};
 
@@ -66,6 +65,14 @@ impl ListEngine {
         })
     }
 
+    /// The number of statements.
+    pub fn len(&self) -> u32
+        ensures count { result ≡ length self.now.checked }
+        ensures few { length self.now.checked < 2 ^ 32 }
+    {
+        self.script.len()
+    }
+
     /// Whether statement `s`, counted from 1, is an action that is run.
     pub fn is_action(&self, s: u32) -> bool
         requires { IsInScript self.now s }
@@ -95,18 +102,8 @@ impl ListEngine {
         ensures exact { IsAnswerOf self.old s result }
     {
         let needs = self.script.needs(s)?;
-        force_all(
-            self.alloc,
-            &self.script,
-            &mut self.values,
-            needs.as_slice(),
-        )?;
-        Ok(answer_of(
-            self.alloc,
-            &self.script,
-            self.values.as_slice(),
-            s,
-        )?)
+        force_all(self.alloc, &self.script, &mut self.values, needs.as_slice())?;
+        Ok(answer_of(self.alloc, &self.script, self.values.as_slice(), s)?)
     }
 }
 

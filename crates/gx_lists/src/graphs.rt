@@ -63,11 +63,7 @@ pub(crate) fn graph(
 }
 
 /// The graph of a collection of edges, each end of which gets the same row. The edges are shared.
-pub(crate) fn from_edges(
-    alloc: Global,
-    edges: &ListGraph,
-    row: &Row,
-) -> Result<ListGraph, NoMemory>
+pub(crate) fn from_edges(alloc: Global, edges: &ListGraph, row: &Row) -> Result<ListGraph, NoMemory>
     ensures { IfOk result (λ g. g ≡ graph_of [] edges.now.edges row.now) }
 {
     let vertices = Rc::new(alloc, table_of_ends(alloc, edges.edges(), row)?)?;

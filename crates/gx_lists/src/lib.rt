@@ -15,8 +15,8 @@
 mod actions;
 mod answer;
 mod answers;
-mod engine;
 mod ends;
+mod engine;
 mod forcing;
 mod graphs;
 mod list_graph;

@@ -41,7 +41,6 @@ impl Model for LoadedScript {
     ghost use Rattle.gx_model.specs.NamesUsed.{NamesAreUsed};
     ghost use Rattle.gx_model.specs.ScriptMeaning.{Loaded};
     ghost use Rattle.gx_types.specs.Needs.{UseEarlier};
-
     ghost use Rattle.gx_expr.specs.contracts.expr.Expr as expr;
     ghost use Rattle.std.specs.Coded.{codes};
 

@@ -104,6 +104,7 @@ same_ascending (n ∷ ns) (m ∷ ms) a b there back =
       where
         apart : m < n → n < m → ⊥
         apart p q = omega arith
+
     rest : (n : ℕ) (ns : List ℕ) (m : ℕ) (ms : List ℕ) → Ascends (n ∷ ns) → Ascends (m ∷ ms) → n ≡ m → ((k : ℕ) → IsIn k (n ∷ ns) → IsIn k (m ∷ ms)) → (k : ℕ) → IsIn k ns → IsIn k ms
     rest n ns m ms a b head there k is_in =
         elim (there k (inr is_in)) [ inl e ↦ absurd (apart (all_at (λ j. n < j) k ns a.0 is_in) head e) | inr more ↦ more ]

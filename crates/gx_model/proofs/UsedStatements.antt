@@ -85,8 +85,10 @@ module _ (checked : List CheckedStmt) (earlier : UseEarlier checked) where
     where
       last_is : (n : ℕ) → k < n → n ≤ k + 1 → n ≡ k + 1
       last_is n low high = omega arith
+
       same_stmt : (n : ℕ) (t : CheckedStmt) → n ≡ k + 1 → slice_get checked (n - 1) ≡ Some t → t ≡ c
       same_stmt n t e is_at = let index : n - 1 ≡ k = omega arith in let both : Some t ≡ Some c = sym is_at ∙ ap (slice_get checked) index ∙ at in cc
+
       of_last : (n : ℕ) (t : CheckedStmt) (u : ℕ) → IsIn n ((k + 1) ∷ []) → slice_get checked (n - 1) ≡ Some t → IsIn u t.uses → IsIn u used
       of_last n t u (inl e) is_at uses =
           let of_c : IsIn u c.uses = subst (λ (s : CheckedStmt). IsIn u s.uses) (same_stmt n t e is_at) uses in
@@ -109,8 +111,10 @@ module _ (checked : List CheckedStmt) (earlier : UseEarlier checked) where
       where
         index : k + 1 - 1 ≡ k
         index = omega arith
+
         of_all : (m : ℕ) → IsIn m (wanted ++ c.uses) → Q m
         of_all m is_in = elim (in_either m wanted c.uses is_in) [ inl left ↦ of_wanted m left | inr right ↦ closed (k + 1) c m (of_wanted (k + 1) is_wanted) (ap (slice_get checked) index ∙ at) right ]
+
         of_last : (m : ℕ) → IsIn m ((k + 1) ∷ []) → Q m
         of_last m (inl e) = subst Q (sym e) (of_wanted (k + 1) is_wanted)
         of_last m (inr none) = absurd none
@@ -155,6 +159,6 @@ module _ (checked : List CheckedStmt) (earlier : UseEarlier checked) where
     -- all that is needed, ascending, is what the definition computes
     pub stmts_used-needed : (needs : List ℕ) → AreNeeded checked s needs → needs ≡ stmts_used checked s
     stmts_used-needed needs are = rw at
-      (same_ascending needs (used_from (s - 1) c.uses) (Ascends-from_adjacent needs are.ascending) (used_is_closed (s - 1) c.uses within).ascends
-      (λ u is_in. is_needed-in u ((are.needed u).0 (among_from_in u needs is_in)))
-      (λ u is_in. in_from_among u needs ((are.needed u).1 (needed_only u is_in).1)))
+        (same_ascending needs (used_from (s - 1) c.uses) (Ascends-from_adjacent needs are.ascending) (used_is_closed (s - 1) c.uses within).ascends
+        (λ u is_in. is_needed-in u ((are.needed u).0 (among_from_in u needs is_in)))
+        (λ u is_in. in_from_among u needs ((are.needed u).1 (needed_only u is_in).1)))

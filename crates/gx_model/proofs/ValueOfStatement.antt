@@ -58,9 +58,9 @@ module _ {Place : Type 0} (place : ℕ → Edge → Place) (loads : LoadedRows) 
         others = before;
         agree = λ i within. sym (values_from-front before first (t ∷ stmts) i (omega arith));
         value = ap (slice_get (values_from place loads before first (t ∷ stmts))) here
-          ∙ values_from-front (before ++ value ∷ []) (first + 1) stmts (length before) (omega (arith, length-append before (value ∷ [])))
-          ∙ slice_get-seam before value []
-          ∙ ap₂ (λ n x. Some (value_of_stmt place loads before n x)) number same;
+            ∙ values_from-front (before ++ value ∷ []) (first + 1) stmts (length before) (omega (arith, length-append before (value ∷ [])))
+            ∙ slice_get-seam before value []
+            ∙ ap₂ (λ n x. Some (value_of_stmt place loads before n x)) number same;
       }
   value_at before first (t ∷ stmts) (suc k) index s stmt ei es at =
       let value = value_of_stmt place loads before first t in
@@ -74,9 +74,9 @@ module _ {Place : Type 0} (place : ℕ → Edge → Place) (loads : LoadedRows) 
       let found = value_at [] 1 stmts (s - 1) (s - 1) s stmt (omega arith) (omega arith) at in
       ap (λ u. unwrap_or u (record { vertices = []; edges = [] })) found.value
       ∙ value_of_stmt-same found.others all s stmt
-        (all_map (IsEarlier (s - 1)) (λ n. value_named found.others n ≡ value_named all n)
-        (λ n early. let below : n - 1 < s - 1 = omega arith in ap (λ u. unwrap_or u (record { vertices = []; edges = [] })) (found.agree (n - 1) below))
-        (names_of_stmt stmt) earlier)
+      (all_map (IsEarlier (s - 1)) (λ n. value_named found.others n ≡ value_named all n)
+      (λ n early. let below : n - 1 < s - 1 = omega arith in ap (λ u. unwrap_or u (record { vertices = []; edges = [] })) (found.agree (n - 1) below))
+      (names_of_stmt stmt) earlier)
 
 -- the statement at an index of a script, with what it uses
 checked_at : (checked : List CheckedStmt) (i : ℕ) (stmt : TypedStmt) (found : Option CheckedStmt) → slice_get checked i ≡ found → option_map (λ c. c.stmt) found ≡ Some stmt → (c : CheckedStmt) × (slice_get checked i ≡ Some c) × (c.stmt ≡ stmt)
