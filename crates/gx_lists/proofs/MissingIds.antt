@@ -12,7 +12,7 @@ use Rattle.std.proofs.lemmas.Bool.{eqb-true}
 use Rattle.gx_rows.specs.declared.vid.Vid.{Vid}
 use Rattle.gx_index.specs.Ids.{IsAscending, has_id, id_cmp, id_cmp-exact, id_cmp-total, is_same_id}
 use Rattle.gx_model.specs.Graphs.{Vertex}
-use Rattle.gx_lists.specs.MissingEnds.{IsMissing, begins_with_id, ids_without_row, vertices_not_below}
+use Rattle.gx_lists.specs.MissingEnds.{AreMissing, begins_with_id, ids_without_row, vertices_not_below}
 
 -- the next item of a list
 pub drop_next : {X : Type 0} (xs : List X) (i : ℕ) (d : X) → i < length xs → drop i xs ≡ get_or xs i d ∷ drop (i + 1) xs
@@ -139,7 +139,7 @@ has_id-filter p q (id ∷ ids) e = by (is_same_id q id) refl (p id) refl (has_id
         let both : true ≡ false = sym e ∙ ap p key ∙ gone in cc
     by false same false gone rest = rest
 
-pub IsMissing-without_row : (vertices : List Vertex) (ids set missing : List Vid) → ((q : Vid) → has_id q set ≡ has_id q ids) → missing ≡ ids_without_row vertices set → IsMissing vertices ids missing
-IsMissing-without_row vertices ids set missing same e = record {
+pub AreMissing-without_row : (vertices : List Vertex) (ids set missing : List Vid) → ((q : Vid) → has_id q set ≡ has_id q ids) → missing ≡ ids_without_row vertices set → AreMissing vertices ids missing
+AreMissing-without_row vertices ids set missing same e = record {
   exact = λ q none. ap (has_id q) e ∙ has_id-filter (λ id. not (has_id id (keys_of vertices))) q set (ap not none) ∙ same q;
 }

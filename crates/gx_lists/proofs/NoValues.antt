@@ -1,5 +1,5 @@
 -- Statements of which no value was kept.
-use Rattle.std.proofs.Common.{◌≡◌, ℕ, ◌+◌, ◌++◌, zero, suc, List, [], ◌∷◌, length, length-append, Option, None, Some, ap, ◌∙◌, ◌-◌, refl, subst, sym, arith}
+use Rattle.std.proofs.Common.{◌≡◌, ℕ, ◌+◌, ◌++◌, zero, suc, List, [], ◌∷◌, length, length-append, Option, None, Some, ◌∙◌, ◌-◌, refl, subst, sym, arith}
 use Rattle.std.specs.List.{slice_get}
 use Rattle.gx_model.specs.ScriptMeaning.{Loaded}
 use Rattle.gx_lists.specs.LoadedScripts.{HasNoValues, HasValues, PlainGraph}

@@ -9,7 +9,7 @@ use Rattle.gx_index.specs.Ids.{IsAscending}
 use Rattle.gx_model.specs.Graphs.{Vertex, edges_value, ends_in_edges, graph_of, placed_from, plain_edges, table_of_rows}
 use Rattle.gx_model.proofs.Tables.{table_of_rows-defaults, with_default}
 use Rattle.gx_lists.specs.LoadedScripts.{PlainGraph}
-use Rattle.gx_lists.specs.MissingEnds.{IsMissing}
+use Rattle.gx_lists.specs.MissingEnds.{AreMissing}
 use Rattle.gx_lists.specs.PlainLists.{unplaced_edges}
 
 pub plain_unplaced : (edges : List Edge) → plain_edges (unplaced_edges edges) ≡ edges
@@ -30,7 +30,7 @@ none_ascend vertices e = subst (λ vs. IsAscending (keys_of vs)) (sym e) ascendi
 -- the vertices of a table with the missing ends are those of the graph
 pub graph_is : (g : PlainGraph) (vertices : List Vertex) (edges : List (Unit {0} × Edge)) (row : List Value) (missing : List Vid) (new_vertices : List Vertex) (new_edges : List (Unit {0} × Edge))
     → g ≡ record { vertices = new_vertices; edges = new_edges } → new_vertices ≡ table_of_rows (vertices ++ with_default row missing) → new_edges ≡ edges
-    → IsMissing vertices (ends_in_edges (plain_edges edges)) missing → g ≡ graph_of vertices edges row
+    → AreMissing vertices (ends_in_edges (plain_edges edges)) missing → g ≡ graph_of vertices edges row
 graph_is g vertices edges row missing new_vertices new_edges is vs es miss =
     is ∙ ap₂ (λ a b. record { vertices = a; edges = b }) (vs ∙ table_of_rows-defaults vertices row missing (ends_in_edges (plain_edges edges)) miss.exact) es
 

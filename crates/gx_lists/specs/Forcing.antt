@@ -23,7 +23,8 @@ AllAmong others (n ∷ ns) = IsAmong others n × AllAmong others ns
 abbrev pub MayRunInOrder : Loaded → List ℕ → List ℕ → Type 0
 MayRunInOrder l before [] = ⊤
 MayRunInOrder l before (s ∷ stmts) =
-    (IsInScript l s × AllAmong before (names_of_number (stmts_in l) s)) × MayRunInOrder l (before ++ s ∷ []) stmts
+    (IsInScript l s × AllAmong before (names_of_number (stmts_in l) s))
+    × MayRunInOrder l (before ++ s ∷ []) stmts
 
 -- values that were kept stay
 abbrev pub Keeps : List (Option PlainGraph) → List (Option PlainGraph) → Type 0

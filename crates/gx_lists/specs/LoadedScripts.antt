@@ -20,8 +20,10 @@ HasRun values s = (g : PlainGraph) × (slice_get values (s - 1) ≡ Some (Some g
 -- each value that was kept is that of its statement, which has no fault
 pub record HasValues (l : Loaded) (values : List (Option PlainGraph)) : Type 0 where
   pub count : length values ≡ length l.checked
-  pub value : (s : ℕ) (g : PlainGraph) → 1 ≤ s → slice_get values (s - 1) ≡ Some (Some g) → g ≡ value_named (plain_values l) s
-  pub no_fault : (s : ℕ) (g : PlainGraph) → 1 ≤ s → slice_get values (s - 1) ≡ Some (Some g) → fault_of_number l s ≡ None
+  pub value : (s : ℕ) (g : PlainGraph) → 1 ≤ s → slice_get values (s - 1) ≡ Some (Some g)
+      → g ≡ value_named (plain_values l) s
+  pub no_fault : (s : ℕ) (g : PlainGraph) → 1 ≤ s → slice_get values (s - 1) ≡ Some (Some g)
+      → fault_of_number l s ≡ None
 
 -- the values of all these statements were kept
 abbrev pub AllHaveRun : List (Option PlainGraph) → List ℕ → Type 0

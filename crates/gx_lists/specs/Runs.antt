@@ -24,5 +24,6 @@ stop_on_vertex s v eval_stop.NoMemory = stop.NoMemory
 -- the new row of a vertex that is defined, or the fault that is defined, as one of statement s
 abbrev pub IsNewRow : ℕ → Vid → Result (List Value) (Cause × ℕ) → Result (List Value) RunStop → Type 0
 IsNewRow s v defined (Ok row) = defined ≡ Ok row
-IsNewRow s v defined (Err (stop.Fault f)) = (defined ≡ Err (f.cause, f.expr)) × (f ≡ fault_on_vertex s (v, (f.cause, f.expr)))
+IsNewRow s v defined (Err (stop.Fault f)) =
+    (defined ≡ Err (f.cause, f.expr)) × (f ≡ fault_on_vertex s (v, (f.cause, f.expr)))
 IsNewRow s v defined (Err stop.NoMemory) = ⊤

@@ -5,7 +5,7 @@ ghost use Rattle.std.specs.Map.{keys_of};
 ghost use Rattle.gx_index.specs.Ends.{IsSetOf};
 ghost use Rattle.gx_index.specs.Ids.{IsAscending};
 ghost use Rattle.gx_model.specs.Graphs.{ends_in_edges, table_of_rows};
-ghost use Rattle.gx_lists.specs.MissingEnds.{IsMissing, begins_with_id, ids_without_row, vertices_not_below};
+ghost use Rattle.gx_lists.specs.MissingEnds.{AreMissing, begins_with_id, ids_without_row, vertices_not_below};
 
 use crate::list_graph::{ListGraph, Vertices};
 use crate::loads::append;
@@ -43,7 +43,7 @@ pub(crate) fn missing_ends(
     edges: &[(Vid, Vid, Row)],
 ) -> Result<Vec<Vid>, NoMemory>
     requires { IsAscending (keys_of vertices.now) }
-    ensures { IfOk result (λ ids. IsMissing vertices.now (ends_in_edges edges.now) ids.items) }
+    ensures { IfOk result (λ ids. AreMissing vertices.now (ends_in_edges edges.now) ids.items) }
 {
     let ends = end_set(alloc, edges)?;
     without_row(alloc, vertices, ends.ids())

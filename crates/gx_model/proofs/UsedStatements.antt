@@ -1,11 +1,11 @@
 -- The statements that a statement uses: ascending, closed under use, and exactly those that it needs.
-use Rattle.std.proofs.Common.{◌≡◌, ℕ, zero, suc, ◌+◌, ◌-◌, ◌<◌, ◌≤◌, Bool, true, false, cond, eqb, List, [], ◌∷◌, ◌++◌, length, take, reverse, All, Option, None, Some, ◌⊎◌, inl, inr, refl, sym, ap, ◌∙◌, subst, arith, add-one}
+use Rattle.std.proofs.Common.{◌≡◌, ℕ, zero, suc, ◌+◌, ◌-◌, ◌<◌, ◌≤◌, Bool, true, false, cond, eqb, List, [], ◌∷◌, ◌++◌, length, take, reverse, Some, inl, inr, refl, sym, ap, ◌∙◌, subst, arith, add-one}
 use Rattle.std.specs.List.{AllByRecursion, IsAmong, list_any, slice_get}
 use Rattle.std.proofs.lemmas.Bool.{cases_lt}
 use Rattle.std.proofs.lemmas.List.{length-reverse, length-take, reverse-append, take_more}
 use Rattle.std.proofs.lemmas.List.Elements.{recursion_from_All}
 use Rattle.std.proofs.lemmas.Option.{get_or_from_slice_get, slice_get_within}
-use Rattle.gx_types.specs.Needs.{AreNeeded, IsEarlier, IsNeeded, UseEarlier, Uses, direct, through}
+use Rattle.gx_types.specs.Needs.{AreNeeded, IsEarlier, IsNeeded, UseEarlier, direct, through}
 use Rattle.gx_types_stmts.specs.declared.checked_stmt.CheckedStmt.{CheckedStmt}
 use Rattle.gx_model.specs.NamesUsed.{stmts_used, stmts_wanted}
 use Rattle.gx_model.proofs.NumberLists.{Ascends, Ascends-append, Ascends-from_adjacent, IsIn, all_append, all_at, all_map, among_from_in, in_either, in_from_among, in_from_any, in_left, in_right, not_in_from_any, same_ascending}

@@ -1,4 +1,3 @@
-use Rattle.std.proofs.Common.{ap, ◌∙◌}
 use Rattle.gx_lists.proofs.PlainEdges.{edges_are, none_ascend}
 use Rattle.gx_lists.proofs.graphs.edge_collection.Goals as goal
 

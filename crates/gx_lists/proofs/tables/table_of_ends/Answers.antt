@@ -1,4 +1,4 @@
-use Rattle.std.proofs.Common.{◌≡◌, ◌++◌, [], sym, ap, ◌∙◌, subst}
+use Rattle.std.proofs.Common.{◌++◌, sym, ap, ◌∙◌, subst}
 use Rattle.std.specs.Map.{keys_of}
 use Rattle.gx_index.specs.Ids.{IsAscending, has_id}
 use Rattle.gx_model.specs.Graphs.{ends_in_edges}
