@@ -1,5 +1,5 @@
 -- Identifiers that are not among the vertices of a table.
-use Rattle.std.specs.Prelude.{◌≡◌, Bool, false, not, if◌then◌else◌, List, [], ◌∷◌}
+use Rattle.std.specs.Prelude.{◌≡◌, Bool, false, not, if◌then◌else◌, List, [], ◌∷◌, pos, refl}
 use Rattle.std.specs.List.{filter}
 use Rattle.std.specs.Map.{keys_of}
 use Rattle.std.specs.Ordering.{is_lt}
@@ -25,3 +25,18 @@ begins_with_id id (v ∷ vertices) = is_same_id id v.0
 -- exactly those of the identifiers that are no vertices
 pub record AreMissing (vertices : List Vertex) (ids missing : List Vid) : Type 0 where
   pub exact : (id : Vid) → has_id id (keys_of vertices) ≡ false → has_id id missing ≡ has_id id ids
+
+-- ---- examples
+
+-- vertices 1 and 3
+two_vertices : List Vertex
+two_vertices = (record { 0 = pos 1 }, []) ∷ (record { 0 = pos 3 }, []) ∷ []
+
+ids_without_row-example : ids_without_row two_vertices (record { 0 = pos 1 } ∷ record { 0 = pos 2 } ∷ [])
+    ≡ record { 0 = pos 2 } ∷ []
+unfolding two_vertices
+ids_without_row-example = refl
+
+vertices_not_below-example : vertices_not_below (record { 0 = pos 2 }) two_vertices ≡ (record { 0 = pos 3 }, []) ∷ []
+unfolding two_vertices
+vertices_not_below-example = refl

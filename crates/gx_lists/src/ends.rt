@@ -1,4 +1,4 @@
-//! The ends of edges that a table does not have.
+//! The ends of edges, and the vertices that they become.
 
 ghost use Rattle.std.specs.Prelude.{◌≡◌, ◌∷◌, ◌++◌, [], if◌then◌else◌, IfOk, OnOk, map};
 ghost use Rattle.std.specs.Map.{keys_of};
@@ -15,8 +15,8 @@ use gx_rows::{NoMemory, Row, Vid};
 use std::alloc::Global;
 use std::rc::Rc;
 
-/// The ends of these edges.
-pub(crate) fn end_set(alloc: Global, edges: &[(Vid, Vid, Row)]) -> Result<IdSet, NoMemory>
+// The ends of these edges.
+fn end_set(alloc: Global, edges: &[(Vid, Vid, Row)]) -> Result<IdSet, NoMemory>
     ensures { IfOk result (IsSetOf (ends_in_edges edges.now)) }
 {
     let ids = ids_of_ends(alloc, edges)?;
@@ -117,6 +117,22 @@ pub(crate) fn vertices_with(
     let mut all = copies(alloc, table.vertices())?;
     append_ids(&mut all, missing, row)?;
     Ok(Rc::new(alloc, table_of(all)?)?)
+}
+
+/// The ends of these edges, ascending, each with this row.
+pub(crate) fn table_of_ends(
+    alloc: Global,
+    edges: &[(Vid, Vid, Row)],
+    row: &Row,
+) -> Result<Vertices, NoMemory>
+    ensures exact { IfOk result (λ table.
+        table.items ≡ table_of_rows (map (λ id. (id, row.now)) (ends_in_edges edges.now))) }
+    ensures ascending { IfOk result (λ table. IsAscending (keys_of table.items)) }
+{
+    let ends = end_set(alloc, edges)?;
+    let mut table = Vec::with_capacity(alloc, ends.ids().len())?;
+    append_ids(&mut table, ends.ids(), row)?;
+    Ok(table)
 }
 
 // The same vertices.

@@ -9,10 +9,10 @@ ghost use Rattle.gx_model.specs.Graphs.{
   table_value,
 };
 
-use crate::ends::{missing_ends, vertices_with};
+use crate::ends::{missing_ends, table_of_ends, vertices_with};
 use crate::list_graph::ListGraph;
 use crate::loads::{edges_of, vertices_of};
-use crate::tables::{table_of, table_of_ends};
+use crate::tables::table_of;
 use gx_rows::{NoMemory, Row, Vid};
 use std::alloc::Global;
 use std::rc::Rc;

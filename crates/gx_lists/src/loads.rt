@@ -2,14 +2,12 @@
 
 ghost use Rattle.std.specs.Prelude.{◌≡◌, ◌∷◌, ◌++◌, IfOk, OnOk, [], map};
 
+use crate::list_graph::{Edges, Vertices};
 use gx_rows::{NoMemory, Row, Vid};
 use std::alloc::Global;
 
 /// The identifier and the row of each loaded row of vertices.
-pub(crate) fn vertices_of(
-    alloc: Global,
-    rows: &[(Vid, Vid, Row)],
-) -> Result<Vec<(Vid, Row)>, NoMemory>
+pub(crate) fn vertices_of(alloc: Global, rows: &[(Vid, Vid, Row)]) -> Result<Vertices, NoMemory>
     ensures { IfOk result (λ vs. vs.items ≡ map (λ row. (row.0, row.2)) rows.now) }
 {
     let mut vertices = Vec::with_capacity(alloc, rows.len())?;
@@ -22,10 +20,7 @@ pub(crate) fn vertices_of(
 }
 
 /// The edges that were loaded.
-pub(crate) fn edges_of(
-    alloc: Global,
-    rows: &[(Vid, Vid, Row)],
-) -> Result<Vec<(Vid, Vid, Row)>, NoMemory>
+pub(crate) fn edges_of(alloc: Global, rows: &[(Vid, Vid, Row)]) -> Result<Edges, NoMemory>
     ensures { IfOk result (λ es. es.items ≡ rows.now) }
 {
     let mut edges = Vec::with_capacity(alloc, rows.len())?;

@@ -38,6 +38,9 @@ names_of_stmt (stmts.CountVertices g) = g ∷ []
 names_of_stmt (stmts.CountEdges g) = g ∷ []
 names_of_stmt (stmts.CountTable t) = t ∷ []
 
+names_of_stmt-example : names_of_stmt (stmts.Graph 1 2 []) ≡ 1 ∷ 2 ∷ []
+names_of_stmt-example = refl
+
 -- the numbers that statement s names
 abbrev pub names_of_number : List TypedStmt → ℕ → List ℕ
 names_of_number stmts s = unwrap_or (option_map names_of_stmt (slice_get stmts (s - 1))) []

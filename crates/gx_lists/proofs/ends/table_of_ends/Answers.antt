@@ -3,7 +3,7 @@ use Rattle.std.specs.Map.{keys_of}
 use Rattle.gx_index.specs.Ids.{IsAscending, has_id}
 use Rattle.gx_model.specs.Graphs.{ends_in_edges}
 use Rattle.gx_model.proofs.Tables.{table_of_rows-set, with_default}
-use Rattle.gx_lists.proofs.tables.table_of_ends.Goals as goal
+use Rattle.gx_lists.proofs.ends.table_of_ends.Goals as goal
 
 pub returns-clause-exact : goal.returns-clause-exact
 returns-clause-exact c =
