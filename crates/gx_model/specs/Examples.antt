@@ -22,10 +22,8 @@ use Rattle.gx_expr.specs.declared.side.Side.TheVariants as side
 use Rattle.gx_types_stmts.specs.declared.checked_stmt.CheckedStmt.{CheckedStmt}
 use Rattle.gx_types_stmts.specs.declared.typed_stmt.TypedStmt.{TypedStmt}
 use Rattle.gx_types_stmts.specs.declared.typed_stmt.TypedStmt.TheVariants as stmts
-use Rattle.gx_print.specs.RowTexts.{line_of_fields}
-use Rattle.gx_print.specs.declared.status.Status.TheVariants as status
 use Rattle.gx_model.specs.ActionAnswers.{Answer}
-use Rattle.gx_model.specs.ScriptMeaning.{Loaded, answers_of_script, meaning_of_answers}
+use Rattle.gx_model.specs.ScriptMeaning.{Loaded, answers_of_script}
 use Rattle.gx_model.specs.Values.{LoadedRows}
 
 int_column : List ℕ → List Column
@@ -115,12 +113,3 @@ silent-example : answers_of_script (script_with share ((stmts.CountTable 1, 1) �
     ≡ record { answers = record { header = codes "count" ∷ []; rows = (Int (pos 2) ∷ []) ∷ [] } ∷ []; fault = None }
 unfolding int_column checked_stmt loaded_rows script_with
 silent-example = refl
-
--- the text of a count
-counted : Answer
-counted = record { header = codes "count" ∷ []; rows = (Int (pos 2) ∷ []) ∷ [] }
-
-texts-example : meaning_of_answers (record { answers = counted ∷ []; fault = None })
-    ≡ record { texts = codes "count\n2\n" ∷ []; end = status.Done }
-unfolding counted line_of_fields
-texts-example = refl
