@@ -1,4 +1,5 @@
 pub mod ActionAnswers
+pub mod DataFiles
 pub mod Examples
 pub mod Graphs
 pub mod NamesUsed

@@ -1,11 +1,16 @@
 -- What a script means over plain lists: what its actions print, up to the first that has a fault.
-use Rattle.std.specs.Prelude.{◌≡◌, ℕ, ◌+◌, ◌-◌, List, [], ◌∷◌, map, slice_get, Option, None, Some, option_map}
+use Rattle.std.specs.Prelude.{◌≡◌, ℕ, ◌+◌, ◌-◌, List, [], ◌∷◌, map, slice_get, Option, None, Some, option_map, Result, Ok, Err}
 use Rattle.std.specs.Option.{option_and_then}
 use Rattle.gx_rows.specs.Order.{Edge}
 use Rattle.gx_rows.specs.declared.fault.Fault.{Fault}
+use Rattle.gx_outside.specs.Contents.{Contents}
+use Rattle.gx_print.specs.RowTexts.{text_of_rows}
+use Rattle.gx_print.specs.declared.status.Status.{Status}
+use Rattle.gx_print.specs.declared.status.Status.TheVariants as status
 use Rattle.gx_types_stmts.specs.declared.checked_stmt.CheckedStmt.{CheckedStmt}
 use Rattle.gx_types_stmts.specs.declared.typed_stmt.TypedStmt.{TypedStmt}
 use Rattle.gx_model.specs.Graphs.{Graph}
+use Rattle.gx_model.specs.DataFiles.{rows_of_script}
 use Rattle.gx_model.specs.NamesUsed.{stmts_used}
 use Rattle.gx_model.specs.ActionAnswers.{Answer, answer_of_stmt}
 use Rattle.gx_model.specs.StmtFaults.{fault_of_stmt}
@@ -68,3 +73,32 @@ answers_from l s (c ∷ checked) =
 -- what a script prints
 abbrev pub answers_of_script : Loaded → ScriptAnswers
 answers_of_script l = answers_from l 1 l.checked
+
+-- ---- the meaning of a script
+
+-- the texts that a script prints, one for each action up to the end, and the end
+pub record RunMeaning : Type 0 where
+  pub texts : List (List ℕ)
+  pub end : Status
+
+-- a refusal before any action
+abbrev pub refused_with : Status → RunMeaning
+refused_with s = record { texts = []; end = s }
+
+abbrev pub end_by : Option Fault → Status
+end_by None = status.Done
+end_by (Some f) = status.Fault f
+
+abbrev pub meaning_of_answers : ScriptAnswers → RunMeaning
+meaning_of_answers a = record {
+  texts = map (λ answer. text_of_rows answer.header answer.rows) a.answers;
+  end = end_by a.fault;
+}
+
+abbrev pub meaning_by_loads : List CheckedStmt → Result LoadedRows Status → RunMeaning
+meaning_by_loads checked (Ok loads) = meaning_of_answers (answers_of_script (record { checked = checked; loads = loads }))
+meaning_by_loads checked (Err s) = refused_with s
+
+-- what a checked script means over these files: all loads first, and then the actions
+abbrev pub meaning_of_script : Contents → List CheckedStmt → RunMeaning
+meaning_of_script contents checked = meaning_by_loads checked (rows_of_script contents checked)
