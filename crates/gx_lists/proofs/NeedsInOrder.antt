@@ -3,9 +3,10 @@ use Rattle.std.proofs.Common.{◌≡◌, ℕ, ◌-◌, ◌<◌, ◌≤◌, List,
 use Rattle.std.specs.List.{IsAmong, slice_get}
 use Rattle.std.proofs.lemmas.List.Elements.{recursion_from_All}
 use Rattle.std.proofs.lemmas.Option.{get_or_from_slice_get, slice_get-map, slice_get_within}
-use Rattle.gx_types.specs.Needs.{AreNeeded, UseEarlier}
+use Rattle.gx_types.specs.Needs.{AreNeeded, NamesAreUsed, UseEarlier}
 use Rattle.gx_types_stmts.specs.declared.checked_stmt.CheckedStmt.{CheckedStmt}
-use Rattle.gx_model.specs.NamesUsed.{NamesAreUsed, names_of_number, names_of_stmt, stmts_used}
+use Rattle.gx_model.specs.NamesUsed.{names_of_number, stmts_used}
+use Rattle.gx_types_stmts.specs.StmtNumbers.{named_numbers}
 use Rattle.gx_model.specs.ScriptMeaning.{Loaded, stmts_in}
 use Rattle.gx_model.proofs.NumberLists.{Ascends, IsIn, all_at, among_from_in, in_either, in_from_among, in_right}
 use Rattle.gx_model.proofs.UsedStatements.{IsClosedList, item_at, stmts_used-closed, stmts_used-needed, uses_are_earlier}
@@ -55,8 +56,8 @@ module _ (l : Loaded) (earlier : UseEarlier l.checked) (named : All NamesAreUsed
   named_are_used : (n : ℕ) (c : CheckedStmt) (u : ℕ) → slice_get l.checked (n - 1) ≡ Some c → IsIn u (names_of_number (stmts_in l) n) → IsIn u c.uses
   named_are_used n c u at is_in =
       let used : NamesAreUsed c = subst NamesAreUsed (get_or_from_slice_get l.checked (n - 1) c c at) (named (n - 1) c (slice_get_within l.checked (n - 1) c at)) in
-      let names : names_of_number (stmts_in l) n ≡ names_of_stmt c.stmt = ap (λ o. unwrap_or (option_map names_of_stmt o) []) (slice_get-map (λ t. t.stmt) l.checked (n - 1) ∙ ap (option_map (λ t. t.stmt)) at) in
-      in_from_among u c.uses (all_at (IsAmong c.uses) u (names_of_stmt c.stmt) (recursion_from_All (IsAmong c.uses) (names_of_stmt c.stmt) used) (subst (IsIn u) names is_in))
+      let names : names_of_number (stmts_in l) n ≡ named_numbers c.stmt = ap (λ o. unwrap_or (option_map named_numbers o) []) (slice_get-map (λ t. t.stmt) l.checked (n - 1) ∙ ap (option_map (λ t. t.stmt)) at) in
+      subst (IsIn u) (sym used) (subst (IsIn u) names is_in)
 
   module _ (s : ℕ) (in_script : IsInScript l s) where
     stmt_at : (n : ℕ) → 1 ≤ n → n ≤ length l.checked → (c : CheckedStmt) × (slice_get l.checked (n - 1) ≡ Some c)

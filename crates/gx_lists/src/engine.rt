@@ -1,8 +1,6 @@
 //! The engine: it answers the actions of a script.
 
-ghost use Rattle.std.specs.Prelude.{◌≡◌, ◌<◌, ◌^◌, ◌↔◌, All, IfOk, IsSome, IsTrue, length};
-ghost use Rattle.gx_model.specs.NamesUsed.{NamesAreUsed};
-ghost use Rattle.gx_types.specs.Needs.{UseEarlier};
+ghost use Rattle.std.specs.Prelude.{◌≡◌, ◌<◌, ◌^◌, ◌↔◌, IfOk, IsSome, IsTrue, length};
 ghost use Rattle.gx_lists.specs.AnswerLists.{IsAnswerOf, action_answer};
 ghost use Rattle.gx_lists.specs.LoadedScripts.{HasNoValues, IsInScript};
 
@@ -52,8 +50,6 @@ impl ListEngine {
     ///
     /// `NoMemory` if memory for the list of values runs out.
     pub fn new(alloc: Global, typed: Typed, loads: Loads) -> Result<ListEngine, NoMemory>
-        requires earlier { UseEarlier typed }
-        requires names_used { All NamesAreUsed typed }
         ensures { IfOk result (λ engine. engine ≡ record { checked = typed; loads = loads }) }
     {
         let script = LoadedScript::new(typed, loads);

@@ -16,10 +16,12 @@ ghost use Rattle.std.specs.Prelude.{
 ghost use Rattle.std.specs.List.{AllByRecursion};
 ghost use Rattle.std.specs.Option.{option_copied};
 ghost use Rattle.gx_model.specs.ActionAnswers.{made_named};
-ghost use Rattle.gx_model.specs.NamesUsed.{NamesAreUsed, names_of_number, names_of_stmt, stmts_used};
+ghost use Rattle.gx_model.specs.NamesUsed.{names_of_number, stmts_used};
+ghost use Rattle.gx_types_stmts.specs.StmtNumbers.{named_numbers};
+ghost use Rattle.gx_types.specs.Needs.{NamesAreUsed, UseEarlier};
 ghost use Rattle.gx_model.specs.ScriptMeaning.{stmts_in};
 ghost use Rattle.gx_model.specs.Values.{rows_loaded};
-ghost use Rattle.gx_types.specs.Needs.{IsEarlier, UseEarlier};
+ghost use Rattle.gx_types_stmts.specs.KnownNames.{IsEarlier};
 ghost use Rattle.gx_lists.specs.Forcing.{AllAmong, MayRunInOrder};
 ghost use Rattle.gx_lists.specs.LoadedScripts.{IsInScript};
 
@@ -38,9 +40,8 @@ pub(crate) struct LoadedScript {
 
 impl Model for LoadedScript {
     ghost use Rattle.std.specs.Prelude.{◌<◌, ◌^◌, All, length};
-    ghost use Rattle.gx_model.specs.NamesUsed.{NamesAreUsed};
+    ghost use Rattle.gx_types.specs.Needs.{NamesAreUsed, UseEarlier};
     ghost use Rattle.gx_model.specs.ScriptMeaning.{Loaded};
-    ghost use Rattle.gx_types.specs.Needs.{UseEarlier};
     ghost use Rattle.gx_expr.specs.contracts.expr.Expr as expr;
     ghost use Rattle.std.specs.Coded.{codes};
 
@@ -55,10 +56,9 @@ impl Model for LoadedScript {
 
 impl LoadedScript {
     pub(crate) fn new(typed: Typed, loads: Loads) -> LoadedScript
-        requires earlier { UseEarlier typed }
-        requires names_used { All NamesAreUsed typed }
         ensures { result ≡ record { checked = typed; loads = loads } }
     {
+        typed.uses_are_earlier();
         LoadedScript { typed, loads }
     }
 
@@ -74,7 +74,7 @@ impl LoadedScript {
     pub(crate) fn statement(&self, s: u32) -> &TypedStmt
         requires { IsInScript self.now s }
         ensures stmt { slice_get (stmts_in self.now) (s - 1) ≡ Some result.now }
-        ensures names_are_earlier { AllByRecursion (IsEarlier (s - 1)) (names_of_stmt result.now) }
+        ensures names_are_earlier { AllByRecursion (IsEarlier (s - 1)) (named_numbers result.now) }
     {
         self.typed.statement(s)
     }

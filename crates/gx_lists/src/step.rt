@@ -1,7 +1,8 @@
 //! One statement, run after those that it uses.
 
 ghost use Rattle.std.specs.Prelude.{◌≡◌, ◌≤◌};
-ghost use Rattle.gx_model.specs.NamesUsed.{names_of_number, names_of_stmt};
+ghost use Rattle.gx_model.specs.NamesUsed.{names_of_number};
+ghost use Rattle.gx_types_stmts.specs.StmtNumbers.{named_numbers};
 ghost use Rattle.gx_model.specs.ScriptMeaning.{fault_of_number, plain_values, stmts_in};
 ghost use Rattle.gx_model.specs.Values.{value_named, value_of_stmt};
 ghost use Rattle.gx_model.specs.StmtFaults.{fault_of_stmt};
@@ -41,7 +42,7 @@ fn run(
     stmt: &TypedStmt,
 ) -> Result<ListGraph, RunStop>
     requires values { HasValues script.now values.now }
-    requires names_have_run { AllHaveRun values.now (names_of_stmt stmt.now) }
+    requires names_have_run { AllHaveRun values.now (named_numbers stmt.now) }
     ensures { RunsTo (λ g. g) result
         (value_of_stmt (λ n e. tt) script.now.loads (plain_values script.now) s stmt.now)
         (fault_of_stmt (plain_values script.now) s stmt.now) }

@@ -1,11 +1,13 @@
 -- The statements that a statement uses: ascending, closed under use, and exactly those that it needs.
 use Rattle.std.proofs.Common.{◌≡◌, ℕ, zero, suc, ◌+◌, ◌-◌, ◌<◌, ◌≤◌, Bool, true, false, cond, eqb, List, [], ◌∷◌, ◌++◌, length, take, reverse, Some, inl, inr, refl, sym, ap, ◌∙◌, subst, arith, add-one}
 use Rattle.std.specs.List.{AllByRecursion, IsAmong, list_any, slice_get}
+use Rattle.std.specs.List.Sorted.{IsStrictlyIncreasing}
 use Rattle.std.proofs.lemmas.Bool.{cases_lt}
 use Rattle.std.proofs.lemmas.List.{length-reverse, length-take, reverse-append, take_more}
 use Rattle.std.proofs.lemmas.List.Elements.{recursion_from_All}
 use Rattle.std.proofs.lemmas.Option.{get_or_from_slice_get, slice_get_within}
-use Rattle.gx_types.specs.Needs.{AreNeeded, IsEarlier, IsNeeded, UseEarlier, direct, through}
+use Rattle.gx_types.specs.Needs.{AreNeeded, IsNeeded, UseEarlier, direct, through}
+use Rattle.gx_types_stmts.specs.KnownNames.{IsEarlier}
 use Rattle.gx_types_stmts.specs.declared.checked_stmt.CheckedStmt.{CheckedStmt}
 use Rattle.gx_model.specs.NamesUsed.{stmts_used, stmts_wanted}
 use Rattle.gx_model.proofs.NumberLists.{Ascends, Ascends-append, Ascends-from_adjacent, IsIn, all_append, all_at, all_map, among_from_in, in_either, in_from_among, in_from_any, in_left, in_right, not_in_from_any, same_ascending}
@@ -14,6 +16,11 @@ pub item_at : {X : Type 0} (xs : List X) (i : ℕ) → i < length xs → (x : X)
 item_at [] i within = absurd (omega arith)
 item_at (x ∷ xs) zero within = (x, refl)
 item_at (x ∷ xs) (suc i) within = item_at xs i (omega arith)
+
+-- each number is less than the next
+adjacent : (ns : List ℕ) → IsStrictlyIncreasing ns → (i a b : ℕ) → slice_get ns i ≡ Some a → slice_get ns (i + 1) ≡ Some b → a < b
+adjacent ns increasing i a b at next =
+    rw (get_or_from_slice_get ns i a 0 at, get_or_from_slice_get ns (i + 1) b 0 next) at (increasing i (slice_get_within ns (i + 1) b next))
 
 module _ (checked : List CheckedStmt) (earlier : UseEarlier checked) where
   -- those of the first k statements that are wanted, and what they use
@@ -159,6 +166,6 @@ module _ (checked : List CheckedStmt) (earlier : UseEarlier checked) where
     -- all that is needed, ascending, is what the definition computes
     pub stmts_used-needed : (needs : List ℕ) → AreNeeded checked s needs → needs ≡ stmts_used checked s
     stmts_used-needed needs are = rw at
-        (same_ascending needs (used_from (s - 1) c.uses) (Ascends-from_adjacent needs are.ascending) (used_is_closed (s - 1) c.uses within).ascends
-        (λ u is_in. is_needed-in u ((are.needed u).0 (among_from_in u needs is_in)))
-        (λ u is_in. in_from_among u needs ((are.needed u).1 (needed_only u is_in).1)))
+        (same_ascending needs (used_from (s - 1) c.uses) (Ascends-from_adjacent needs (adjacent needs are.ascending)) (used_is_closed (s - 1) c.uses within).ascends
+        (λ u is_in. is_needed-in u (are.sound u (among_from_in u needs is_in)))
+        (λ u is_in. in_from_among u needs (are.complete u (needed_only u is_in).1)))

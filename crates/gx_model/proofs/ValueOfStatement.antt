@@ -4,12 +4,13 @@ use Rattle.std.specs.List.{AllByRecursion, IsAmong, slice_get}
 use Rattle.std.proofs.lemmas.List.Elements.{recursion_from_All}
 use Rattle.std.proofs.lemmas.Option.{get_or_from_slice_get, slice_get-map, slice_get_within}
 use Rattle.gx_rows.specs.Order.{Edge}
-use Rattle.gx_types.specs.Needs.{IsEarlier, UseEarlier}
+use Rattle.gx_types.specs.Needs.{NamesAreUsed, UseEarlier}
+use Rattle.gx_types_stmts.specs.KnownNames.{IsEarlier}
 use Rattle.gx_types_stmts.specs.declared.checked_stmt.CheckedStmt.{CheckedStmt}
 use Rattle.gx_types_stmts.specs.declared.typed_stmt.TypedStmt.{TypedStmt}
 use Rattle.gx_types_stmts.specs.declared.typed_stmt.TypedStmt.TheVariants as stmts
 use Rattle.gx_model.specs.Graphs.{Graph, graph_of}
-use Rattle.gx_model.specs.NamesUsed.{NamesAreUsed, names_of_stmt}
+use Rattle.gx_types_stmts.specs.StmtNumbers.{named_numbers}
 use Rattle.gx_model.specs.Values.{LoadedRows, mapped_vertices, value_named, value_of_stmt, values_from, values_of_script}
 use Rattle.gx_model.proofs.NumberLists.{all_map}
 
@@ -24,7 +25,7 @@ slice_get-seam (x ∷ xs) y ys = slice_get-seam xs y ys
 
 module _ {Place : Type 0} (place : ℕ → Edge → Place) (loads : LoadedRows) where
   -- a statement has one value by all values that agree on the names in it
-  value_of_stmt-same : (vs ws : List (Graph Place)) (s : ℕ) (stmt : TypedStmt) → AllByRecursion (λ n. value_named vs n ≡ value_named ws n) (names_of_stmt stmt)
+  value_of_stmt-same : (vs ws : List (Graph Place)) (s : ℕ) (stmt : TypedStmt) → AllByRecursion (λ n. value_named vs n ≡ value_named ws n) (named_numbers stmt)
       → value_of_stmt place loads vs s stmt ≡ value_of_stmt place loads ws s stmt
   value_of_stmt-same vs ws s (stmts.Graph t e default) same = ap₂ (λ a b. graph_of a.vertices b.edges default) same.0 same.1.0
   value_of_stmt-same vs ws s (stmts.FromEdges e row) same = ap (λ b. graph_of [] b.edges row) same.0
@@ -67,7 +68,7 @@ module _ {Place : Type 0} (place : ℕ → Edge → Place) (loads : LoadedRows) 
       value_at (before ++ value ∷ []) (first + 1) stmts k index s stmt (omega (arith, length-append before (value ∷ []))) (omega arith) at
 
   -- the value of a statement, by the values of all
-  pub value_named-stmt : (stmts : List TypedStmt) (s : ℕ) (stmt : TypedStmt) → 1 ≤ s → slice_get stmts (s - 1) ≡ Some stmt → AllByRecursion (IsEarlier (s - 1)) (names_of_stmt stmt)
+  pub value_named-stmt : (stmts : List TypedStmt) (s : ℕ) (stmt : TypedStmt) → 1 ≤ s → slice_get stmts (s - 1) ≡ Some stmt → AllByRecursion (IsEarlier (s - 1)) (named_numbers stmt)
       → value_named (values_of_script place loads stmts) s ≡ value_of_stmt place loads (values_of_script place loads stmts) s stmt
   value_named-stmt stmts s stmt from_one at earlier =
       let all = values_of_script place loads stmts in
@@ -76,7 +77,7 @@ module _ {Place : Type 0} (place : ℕ → Edge → Place) (loads : LoadedRows) 
       ∙ value_of_stmt-same found.others all s stmt
       (all_map (IsEarlier (s - 1)) (λ n. value_named found.others n ≡ value_named all n)
       (λ n early. let below : n - 1 < s - 1 = omega arith in ap (λ u. unwrap_or u (record { vertices = []; edges = [] })) (found.agree (n - 1) below))
-      (names_of_stmt stmt) earlier)
+      (named_numbers stmt) earlier)
 
 -- the statement at an index of a script, with what it uses
 checked_at : (checked : List CheckedStmt) (i : ℕ) (stmt : TypedStmt) (found : Option CheckedStmt) → slice_get checked i ≡ found → option_map (λ c. c.stmt) found ≡ Some stmt → (c : CheckedStmt) × (slice_get checked i ≡ Some c) × (c.stmt ≡ stmt)
@@ -85,12 +86,10 @@ checked_at checked i stmt (Some c) at e = let same : c.stmt ≡ stmt = cc in (c,
 
 -- what a statement names comes earlier
 pub names_are_earlier : (checked : List CheckedStmt) (s : ℕ) (stmt : TypedStmt) → UseEarlier checked → All NamesAreUsed checked → slice_get (map (λ c. c.stmt) checked) (s - 1) ≡ Some stmt
-    → AllByRecursion (IsEarlier (s - 1)) (names_of_stmt stmt)
+    → AllByRecursion (IsEarlier (s - 1)) (named_numbers stmt)
 names_are_earlier checked s stmt earlier named at =
     let found = checked_at checked (s - 1) stmt (slice_get checked (s - 1)) refl (sym (slice_get-map (λ c. c.stmt) checked (s - 1)) ∙ at) in
     let c = found.0 in
     let used : NamesAreUsed c = subst NamesAreUsed (get_or_from_slice_get checked (s - 1) c c found.1) (named (s - 1) c (slice_get_within checked (s - 1) c found.1)) in
-    subst (λ x. AllByRecursion (IsEarlier (s - 1)) (names_of_stmt x)) found.2
-    (all_map (IsAmong c.uses) (IsEarlier (s - 1))
-    (λ n among. subst (IsEarlier (s - 1)) (sym among.1.1) (earlier (s - 1) c found.1 among.0 n among.1.0))
-    (names_of_stmt c.stmt) (recursion_from_All (IsAmong c.uses) (names_of_stmt c.stmt) used))
+    subst (λ x. AllByRecursion (IsEarlier (s - 1)) (named_numbers x)) found.2
+    (subst (AllByRecursion (IsEarlier (s - 1))) used (recursion_from_All (IsEarlier (s - 1)) c.uses (earlier (s - 1) c found.1)))

@@ -45,11 +45,11 @@ script_with : Expr → List (TypedStmt × ℕ) → Loaded
 script_with x actions = record {
   loads = loaded_rows;
   checked =
-    checked_stmt (stmts.Vertices (codes "ages.csv")) [] (Some (int_column (codes "age"))) None
-    ∷ checked_stmt (stmts.Edges (codes "links.csv")) [] None (Some (int_column (codes "w")))
-    ∷ checked_stmt (stmts.Graph 1 2 (Int (pos 0) ∷ [])) (1 ∷ 2 ∷ []) (Some (int_column (codes "age"))) (Some (int_column (codes "w")))
-    ∷ checked_stmt (stmts.MapVertices 3 (x ∷ [])) (3 ∷ []) (Some (int_column (codes "x"))) (Some (int_column (codes "w")))
-    ∷ map (λ a. checked_stmt a.0 (a.1 ∷ []) None None) actions;
+      checked_stmt (stmts.Vertices (codes "ages.csv")) [] (Some (int_column (codes "age"))) None
+      ∷ checked_stmt (stmts.Edges (codes "links.csv")) [] None (Some (int_column (codes "w")))
+      ∷ checked_stmt (stmts.Graph 1 2 (Int (pos 0) ∷ [])) (1 ∷ 2 ∷ []) (Some (int_column (codes "age"))) (Some (int_column (codes "w")))
+      ∷ checked_stmt (stmts.MapVertices 3 (x ∷ [])) (3 ∷ []) (Some (int_column (codes "x"))) (Some (int_column (codes "w")))
+      ∷ map (λ a. checked_stmt a.0 (a.1 ∷ []) None None) actions;
 }
 
 -- an operation on the age of a vertex and a number
@@ -75,25 +75,25 @@ unfolding next_age age_of_vertex int_const age_result
 next_age-result s =
     eval_result-roll s (layer.Binary 0 binary.Add age_of_vertex (int_const 2 1))
     ∙ ap₂ (eval_binary 0 binary.Add)
-      (eval_result-roll s (layer.Column 1 side.Vertex 0))
-      (eval_result-roll s (layer.Const 2 (Int (pos 1))))
+    (eval_result-roll s (layer.Column 1 side.Vertex 0))
+    (eval_result-roll s (layer.Const 2 (Int (pos 1))))
 
 share-result : (s : ScopeValues) → eval_result s share ≡ eval_binary 0 binary.Div (Ok (Int (pos 1))) (age_result s)
 unfolding share age_of_vertex int_const age_result
 share-result s =
     eval_result-roll s (layer.Binary 0 binary.Div (int_const 2 1) age_of_vertex)
     ∙ ap₂ (eval_binary 0 binary.Div)
-      (eval_result-roll s (layer.Const 2 (Int (pos 1))))
-      (eval_result-roll s (layer.Column 1 side.Vertex 0))
+    (eval_result-roll s (layer.Const 2 (Int (pos 1))))
+    (eval_result-roll s (layer.Column 1 side.Vertex 0))
 
 -- vertex 2 is an end without a row; edges are printed in edge order
 prints-example : answers_of_script (script_with next_age ((stmts.PrintVertices 4, 4) ∷ (stmts.PrintEdges 3, 3) ∷ (stmts.CountTable 1, 1) ∷ []))
     ≡ record {
       answers =
-        record { header = codes "id" ∷ codes "x" ∷ []; rows = (Int (pos 1) ∷ Int (pos 26) ∷ []) ∷ (Int (pos 2) ∷ Int (pos 1) ∷ []) ∷ (Int (pos 3) ∷ Int (pos 31) ∷ []) ∷ [] }
-        ∷ record { header = codes "src" ∷ codes "dst" ∷ codes "w" ∷ []; rows = (Int (pos 1) ∷ Int (pos 2) ∷ Int (pos 4) ∷ []) ∷ (Int (pos 2) ∷ Int (pos 3) ∷ Int (pos 1) ∷ []) ∷ [] }
-        ∷ record { header = codes "count" ∷ []; rows = (Int (pos 2) ∷ []) ∷ [] }
-        ∷ [];
+          record { header = codes "id" ∷ codes "x" ∷ []; rows = (Int (pos 1) ∷ Int (pos 26) ∷ []) ∷ (Int (pos 2) ∷ Int (pos 1) ∷ []) ∷ (Int (pos 3) ∷ Int (pos 31) ∷ []) ∷ [] }
+          ∷ record { header = codes "src" ∷ codes "dst" ∷ codes "w" ∷ []; rows = (Int (pos 1) ∷ Int (pos 2) ∷ Int (pos 4) ∷ []) ∷ (Int (pos 2) ∷ Int (pos 3) ∷ Int (pos 1) ∷ []) ∷ [] }
+          ∷ record { header = codes "count" ∷ []; rows = (Int (pos 2) ∷ []) ∷ [] }
+          ∷ [];
       fault = None;
     }
 unfolding int_column checked_stmt loaded_rows script_with age_result

@@ -1,6 +1,6 @@
 use Rattle.std.proofs.Common.{◌≡◌, [], All, subst, sym}
-use Rattle.gx_types.specs.Needs.{AreNeeded, UseEarlier}
-use Rattle.gx_model.specs.NamesUsed.{NamesAreUsed, names_of_number, stmts_used}
+use Rattle.gx_types.specs.Needs.{AreNeeded, NamesAreUsed, UseEarlier}
+use Rattle.gx_model.specs.NamesUsed.{names_of_number, stmts_used}
 use Rattle.gx_model.specs.ScriptMeaning.{Loaded, stmts_in}
 use Rattle.gx_lists.specs.Forcing.{AllAmong, MayRunInOrder}
 use Rattle.gx_lists.proofs.NeedsInOrder.{if_ok_map, needs_are, needs_in_order, needs_names}

@@ -6,4 +6,4 @@ use Rattle.gx_lists.proofs.loaded_script.LoadedScript.statement.Goals as goal
 pub returns-clause-names_are_earlier : goal.returns-clause-names_are_earlier
 returns-clause-names_are_earlier c =
     let typed = c.self.inside.typed in
-    names_are_earlier typed c.args.s c.statement.result.now c.self.invariant.0 c.self.invariant.1 (slice_get-map (λ t. t.stmt) typed (c.args.s - 1) ∙ c.statement.ensures)
+    names_are_earlier typed c.args.s c.statement.result.now c.self.invariant.0 c.self.invariant.1 (slice_get-map (λ t. t.stmt) typed (c.args.s - 1) ∙ c.statement.ensures.at)
