@@ -4,9 +4,9 @@
 //! `specs/` is the product: every crate above is measured by these definitions, and none of them
 //! knows partitions, indexes, masks, views, plans or schedules. The program makes no call of this
 //! crate. To add a statement, add its line in `value_of_stmt` (specs/Values.antt), in `fault_of_stmt`
-//! (specs/StmtFaults.antt), in `names_of_stmt` (specs/NamesUsed.antt) and in `value_of_stmt-same`
-//! (proofs/ValueOfStatement.antt); for an action, its line in `answer_of_stmt`
-//! (specs/ActionAnswers.antt) too.
+//! (specs/StmtFaults.antt) and in `value_of_stmt-same` (proofs/ValueOfStatement.antt); for an action,
+//! its line in `answer_of_stmt` (specs/ActionAnswers.antt) too, and for a load in `data_file_by`
+//! (specs/DataFiles.antt).
 #![tactic(auto)]
 
 pub use gx_types_stmts::{CheckedStmt, TypedStmt};
