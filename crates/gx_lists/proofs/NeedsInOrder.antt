@@ -1,14 +1,13 @@
 -- The statements that a statement uses may be run in their order, and the names in it are among them.
 use Rattle.std.proofs.Common.{◌≡◌, ℕ, ◌-◌, ◌<◌, ◌≤◌, List, [], ◌∷◌, ◌++◌, length, All, Some, option_map, unwrap_or, Result, Ok, Err, IfOk, inl, inr, refl, sym, ap, ◌∙◌, subst, arith, append_assoc}
-use Rattle.std.specs.List.{IsAmong, slice_get}
-use Rattle.std.proofs.lemmas.List.Elements.{recursion_from_All}
+use Rattle.std.specs.List.{slice_get}
 use Rattle.std.proofs.lemmas.Option.{get_or_from_slice_get, slice_get-map, slice_get_within}
 use Rattle.gx_types.specs.Needs.{AreNeeded, NamesAreUsed, UseEarlier}
 use Rattle.gx_types_stmts.specs.declared.checked_stmt.CheckedStmt.{CheckedStmt}
 use Rattle.gx_model.specs.NamesUsed.{names_of_number, stmts_used}
 use Rattle.gx_types_stmts.specs.StmtNumbers.{named_numbers}
 use Rattle.gx_model.specs.ScriptMeaning.{Loaded, stmts_in}
-use Rattle.gx_model.proofs.NumberLists.{Ascends, IsIn, all_at, among_from_in, in_either, in_from_among, in_right}
+use Rattle.gx_model.proofs.NumberLists.{Ascends, IsIn, all_at, among_from_in, in_either, in_right}
 use Rattle.gx_model.proofs.UsedStatements.{IsClosedList, item_at, stmts_used-closed, stmts_used-needed, uses_are_earlier}
 use Rattle.gx_lists.specs.Forcing.{AllAmong, MayRunInOrder}
 use Rattle.gx_lists.specs.LoadedScripts.{IsInScript}

@@ -1,6 +1,5 @@
 -- What an action prints: a header and rows.
-use Rattle.std.specs.Prelude.{◌≡◌, ℕ, pos, ◌-◌, List, [], ◌∷◌, ◌++◌, map, length, codes, slice_get, unwrap_or, Option, None, Some, option_map, refl}
-use Rattle.std.specs.Option.{option_and_then}
+use Rattle.std.specs.Prelude.{ℕ, pos, ◌-◌, List, [], ◌∷◌, map, length, codes, slice_get, unwrap_or, Option, None, Some, option_map}
 use Rattle.gx_rows.specs.Columns.{Column, names_of}
 use Rattle.gx_rows.specs.Order.{Edge}
 use Rattle.gx_rows.specs.declared.value.Value.{Value}

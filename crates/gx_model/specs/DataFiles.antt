@@ -1,5 +1,5 @@
 -- The rows that a script loads from its data files, or the first refusal.
-use Rattle.std.specs.Prelude.{◌≡◌, ℕ, pos, ◌+◌, if◌then◌else◌, nat_lt, Bool, false, List, [], ◌∷◌, ◌++◌, length, codes, Option, None, Some, option_map, unwrap_or, ok_or, Result, Ok, Err, refl}
+use Rattle.std.specs.Prelude.{◌≡◌, ℕ, ◌+◌, if◌then◌else◌, nat_lt, Bool, false, List, [], ◌∷◌, ◌++◌, length, codes, Option, None, Some, unwrap_or, ok_or, Result, Ok, Err, refl}
 use Rattle.gx_rows.specs.Columns.{Column}
 use Rattle.gx_rows.specs.Limits.{most_of}
 use Rattle.gx_rows.specs.Results.{◌>>=◌}

@@ -22,7 +22,6 @@ use Rattle.gx_expr.specs.declared.side.Side.TheVariants as side
 use Rattle.gx_types_stmts.specs.declared.checked_stmt.CheckedStmt.{CheckedStmt}
 use Rattle.gx_types_stmts.specs.declared.typed_stmt.TypedStmt.{TypedStmt}
 use Rattle.gx_types_stmts.specs.declared.typed_stmt.TypedStmt.TheVariants as stmts
-use Rattle.gx_model.specs.ActionAnswers.{Answer}
 use Rattle.gx_model.specs.ScriptMeaning.{Loaded, answers_of_script}
 use Rattle.gx_model.specs.Values.{LoadedRows}
 

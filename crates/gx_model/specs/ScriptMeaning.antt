@@ -1,7 +1,6 @@
 -- What a script means over plain lists: what its actions print, up to the first that has a fault.
-use Rattle.std.specs.Prelude.{◌≡◌, ℕ, ◌+◌, ◌-◌, List, [], ◌∷◌, map, slice_get, Option, None, Some, option_map, Result, Ok, Err}
+use Rattle.std.specs.Prelude.{ℕ, ◌+◌, ◌-◌, List, [], ◌∷◌, map, slice_get, Option, None, Some, Result, Ok, Err}
 use Rattle.std.specs.Option.{option_and_then}
-use Rattle.gx_rows.specs.Order.{Edge}
 use Rattle.gx_rows.specs.declared.fault.Fault.{Fault}
 use Rattle.gx_outside.specs.Contents.{Contents}
 use Rattle.gx_print.specs.RowTexts.{text_of_rows}
