@@ -171,6 +171,23 @@ fn joins_and_subtracts(rt: HostRuntime) -> Result<(), Fail> {
 }
 
 #[test]
+fn takes_one_row_and_none(rt: HostRuntime) -> Result<(), Fail> {
+    let alloc = rt.alloc();
+    let none = numbers(alloc, &[], 0)?;
+    let one = numbers(alloc, &[Vid(7)], 1)?;
+    assert_eq!(rt; list_of(alloc, &none)?.len(), 0);
+    assert_eq!(rt; list_of(alloc, &none.minus(&one)?)?.len(), 0);
+    assert_eq!(rt; list_of(alloc, &one.diff(&none)?)?.len(), 0);
+    assert_eq!(rt;
+        list_of(alloc, &one.minus(&none)?)?.as_slice(),
+        [(7, 8)].as_slice()
+    );
+    let left = or_no_memory(one.left_join(&none, |_, _, b| Ok(row_of(b.map_or(-1, number_of)))))?;
+    assert_eq!(rt; list_of(alloc, &left)?.as_slice(), [(7, -1)].as_slice());
+    Ok(())
+}
+
+#[test]
 fn keeps_a_hundred_rows(rt: HostRuntime) -> Result<(), Fail> {
     let alloc = rt.alloc();
     let mut ids = Vec::new(alloc);
