@@ -4,8 +4,9 @@ use Rattle.std.proofs.lemmas.Bool.{and_parts, cases_eq, cases_lt, ne_eqb}
 use Rattle.std.proofs.lemmas.Str.{IsUtf8-append, IsUtf8-nil, IsUtf8-encode, encode_ascii, inside_one}
 use Rattle.std.specs.List.{list_any}
 use Rattle.std.specs.Prelude.{◌==◌}
-use Rattle.csv.specs.Writing.{default_writer, escaped, field_text, next_sep, needs_quotes, quoted, tail_text}
+use Rattle.csv.specs.Writing.{escaped, field_text, next_sep, needs_quotes, quoted, tail_text}
 use Rattle.csv.proofs.WriteFacts.{escaped-append, escaped-double, escaped-none, escaped-other}
+use Rattle.gx_print.specs.RowTexts.{line_writer}
 use lib.Utf8.{scalar, scalars, encode, encodes, low_scalar}
 
 -- a byte of ASCII before a text
@@ -35,45 +36,45 @@ bytes_above c big k below = elim (cases_lt (get_or (encode c) k 0) 128) [
 ]
 
 -- a character between quotes
-char_utf8 : (c : ℕ) → scalar c ≡ true → IsUtf8 (escaped default_writer (encode c))
+char_utf8 : (c : ℕ) → scalar c ≡ true → IsUtf8 (escaped line_writer (encode c))
 char_utf8 c ok = elim (cases_lt c 128) [
   | inl small ↦ elim (cases_eq c 34) [
     | inl is ↦
-        rw (encode_ascii c small, escaped-double default_writer c is refl)
+        rw (encode_ascii c small, escaped-double line_writer c is refl)
         (after_ascii c (c ∷ []) small (after_ascii c [] small IsUtf8-nil))
     | inr other ↦
-        rw (encode_ascii c small, escaped-other default_writer c other) (after_ascii c [] small IsUtf8-nil)
+        rw (encode_ascii c small, escaped-other line_writer c other) (after_ascii c [] small IsUtf8-nil)
   ]
   | inr big ↦
-      let same = escaped-none default_writer (encode c) (no_quote (encode c) (bytes_above c big)) in
+      let same = escaped-none line_writer (encode c) (no_quote (encode c) (bytes_above c big)) in
       subst IsUtf8 (sym same) (IsUtf8-encode c ok)
 ]
 
-chars_utf8 : (cs : List ℕ) → scalars cs ≡ true → IsUtf8 (escaped default_writer (encodes cs))
+chars_utf8 : (cs : List ℕ) → scalars cs ≡ true → IsUtf8 (escaped line_writer (encodes cs))
 unfolding escaped
 chars_utf8 [] e = IsUtf8-nil
 chars_utf8 (c ∷ cs) e =
     let each = and_parts _ _ e in
     let both = IsUtf8-append _ _ (char_utf8 c each.0) (chars_utf8 cs each.1) in
-    subst IsUtf8 (sym (escaped-append default_writer (encode c) (encodes cs))) both
+    subst IsUtf8 (sym (escaped-append line_writer (encode c) (encodes cs))) both
 
-quoted_utf8 : (field : List ℕ) → IsUtf8 field → IsUtf8 (quoted default_writer field)
+quoted_utf8 : (field : List ℕ) → IsUtf8 field → IsUtf8 (quoted line_writer field)
 quoted_utf8 field u =
-    let inner = subst (λ f. IsUtf8 (escaped default_writer f)) u.1.1 (chars_utf8 u.0 u.1.0) in
+    let inner = subst (λ f. IsUtf8 (escaped line_writer f)) u.1.1 (chars_utf8 u.0 u.1.0) in
     let close = after_ascii 34 [] (omega arith) IsUtf8-nil in
     after_ascii 34 _ (omega arith) (IsUtf8-append _ _ inner close)
 
 -- a field as it is written
-pub field_utf8 : (field : List ℕ) → IsUtf8 field → IsUtf8 (field_text default_writer field)
+pub field_utf8 : (field : List ℕ) → IsUtf8 field → IsUtf8 (field_text line_writer field)
 field_utf8 field u =
-    either_utf8 (needs_quotes default_writer field) (quoted default_writer field) field (quoted_utf8 field u) u
+    either_utf8 (needs_quotes line_writer field) (quoted line_writer field) field (quoted_utf8 field u) u
 
 -- what stands before a field
-pub separator_utf8 : (n : ℕ) → IsUtf8 (next_sep default_writer n)
+pub separator_utf8 : (n : ℕ) → IsUtf8 (next_sep line_writer n)
 separator_utf8 n = either_utf8 (n == 0) [] (44 ∷ []) IsUtf8-nil (after_ascii 44 [] (omega arith) IsUtf8-nil)
 
 -- what ends a line
-pub end_utf8 : (wrote : Bool) (n : ℕ) → IsUtf8 (tail_text default_writer wrote n)
+pub end_utf8 : (wrote : Bool) (n : ℕ) → IsUtf8 (tail_text line_writer wrote n)
 end_utf8 wrote n =
     let quotes = after_ascii 34 (34 ∷ []) (omega arith) (after_ascii 34 [] (omega arith) IsUtf8-nil) in
     let feed = after_ascii 10 [] (omega arith) IsUtf8-nil in

@@ -3,11 +3,11 @@ use Rattle.std.proofs.Common.{◌≡◌, ◌≢◌, ℕ, ◌+◌, ◌^◌, true,
 use Rattle.std.proofs.lemmas.Str.{IsUtf8-append}
 use Rattle.std.specs.Prelude.{◌==◌, ◌||◌, ◌&&◌, ◌-◌, min, Vec, Some}
 use Rattle.std.specs.declared.alloc.Global.{Global}
-use Rattle.csv.specs.Writing.{default_writer, field_text, fields_written, has_written, is_blank, next_sep, tail_text, writer_setup}
+use Rattle.csv.specs.Writing.{field_text, fields_written, has_written, is_blank, next_sep, tail_text, writer_setup}
 use Rattle.csv.specs.declared.writer.QuoteStyle.TheVariants as style
 use Rattle.csv.specs.declared.writer.Writer.{Writer}
 use Rattle.csv.proofs.WriteFacts.{blank-more, row-more, row-final}
-use Rattle.gx_print.specs.RowTexts.{line_of_fields}
+use Rattle.gx_print.specs.RowTexts.{line_of_fields, line_writer}
 use Rattle.gx_print.specs.WriterStates.{EndsLine, GrowsByField, IsAtLineStart, IsInLine, written_text}
 use Rattle.gx_print.proofs.Utf8Fields.{field_utf8, separator_utf8, end_utf8}
 
@@ -30,15 +30,15 @@ field_grows v w field u h before fields few line =
     let size : length (fields ++ field ∷ []) ≡ length fields + 1 = length-append fields (field ∷ []) in
     let grown = h.text (rw line.setup necessary) in
     let text = rw (line.setup, line.count, line.text) at grown in
-    let wrote : has_written v ≡ false → has_written w ≡ not (length (field_text default_writer field) == 0) =
+    let wrote : has_written v ≡ false → has_written w ≡ not (length (field_text line_writer field) == 0) =
     λ e. rw line.setup at (h.wrote e (rw line.setup necessary)) in
     let added = IsUtf8-append _ _ (separator_utf8 (fields_written v)) (field_utf8 field u) in
     record {
       setup = h.same ∙ line.setup;
       count = rw (h.count, line.count, size) (omega arith);
       blank =
-          rw size (blank-more default_writer fields field (has_written v) (has_written w) line.blank wrote h.stays);
-      text = rw (row-more default_writer fields field) (text ∙ append_assoc before _ _);
+          rw size (blank-more line_writer fields field (has_written v) (has_written w) line.blank wrote h.stays);
+      text = rw (row-more line_writer fields field) (text ∙ append_assoc before _ _);
       utf8 = subst IsUtf8 (sym grown) (IsUtf8-append _ _ line.utf8 (rw line.setup added));
     }
 
@@ -55,7 +55,7 @@ line_ends v w h before fields line =
     let wrote = has_written v in
     let count = fields_written v in
     let bytes = rw line.setup at h.bytes in
-    let blank : is_blank default_writer fields ≡ (not wrote && ((count == 0) || (count == 1))) =
+    let blank : is_blank line_writer fields ≡ (not wrote && ((count == 0) || (count == 1))) =
     rw line.count line.blank in
     let start : IsAtLineStart w = record {
       setup = h.same ∙ line.setup;
@@ -65,7 +65,7 @@ line_ends v w h before fields line =
     } in
     let mid = Some (written_text v) in
     let new = Some (written_text w) in
-    (start, row-final (Some before) mid new default_writer fields wrote count line.text blank bytes)
+    (start, row-final (Some before) mid new line_writer fields wrote count line.text blank bytes)
 
 -- a line begins with no field
 pub line_begins : (w : Writer (Vec ℕ Global)) → IsAtLineStart w → IsInLine (written_text w) [] w

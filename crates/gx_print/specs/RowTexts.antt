@@ -2,14 +2,19 @@
 use Rattle.std.specs.Prelude.{◌≡◌, ℕ, pos, negsuc, true, List, [], ◌∷◌, ◌++◌, map, codes, refl}
 use Rattle.std.specs.Fmt.{digits}
 use Rattle.std.specs.List.{flat_map}
-use Rattle.csv.specs.Writing.{default_writer, escaped, fields_text, is_blank, row_text}
+use Rattle.csv.specs.Writing.{default_writer, escaped, fields_text, is_blank, row_text, with_flexible}
+use Rattle.csv.specs.declared.writer.WriterBuilder.{WriterBuilder}
 use Rattle.gx_rows.specs.declared.value.Value.{Value}
 use Rattle.gx_rows.specs.declared.value.Value.TheVariants as value
 use Rattle.gx_print.specs.Fields.{value_field}
 
+-- how `csv` writes by default, but lines may differ in their number of fields
+abbrev pub line_writer : WriterBuilder
+line_writer = with_flexible default_writer true
+
 -- the line of these fields: commas between, quotes where they are needed, and a line feed
 unfoldable pub line_of_fields : List (List ℕ) → List ℕ
-line_of_fields fields = row_text default_writer fields
+line_of_fields fields = row_text line_writer fields
 
 -- the line of a row
 abbrev pub line_of_row : List Value → List ℕ

@@ -1,5 +1,5 @@
 -- The line that tells why a run ended, to the byte.
-use Rattle.std.specs.Prelude.{◌≡◌, ℕ, ⊤, List, [], ◌∷◌, ◌++◌, Option, None, Some, codes, decimal, is_some, true, false, pos, negsuc, refl}
+use Rattle.std.specs.Prelude.{◌≡◌, ℕ, Bool, true, false, List, [], ◌∷◌, ◌++◌, Option, None, Some, codes, decimal, pos, negsuc, refl}
 use Rattle.std.specs.Fmt.{digits, signed_decimal}
 use Rattle.std.specs.List.{concat}
 use Rattle.gx_load.specs.declared.load_stop.CellKind.TheVariants as cell
@@ -84,25 +84,18 @@ text_of_status (status.Source name) = source_line name
 text_of_status status.Sink = codes "sink\n"
 text_of_status status.NoMemory = codes "no memory\n"
 
--- a column has a name exactly if the refused position is a column's
-abbrev pub HasItsColumn : Option (List ℕ) → RowStop → Type 0
-HasItsColumn column (row_stop.Header at) = is_some column ≡ true
-HasItsColumn column (row_stop.Shape row) = is_some column ≡ false
-HasItsColumn column (row_stop.Cell row at kind) = is_some column ≡ true
-HasItsColumn column (row_stop.Line line) = is_some column ≡ false
-
--- the run is not done, and a refused column of a file has its name
-abbrev pub HasStatusText : Status → Type 0
-HasStatusText status.Done = ⊥
-HasStatusText status.Usage = ⊤
-HasStatusText (status.Script stop) = ⊤
-HasStatusText (status.Schedule line) = ⊤
-HasStatusText (status.Data stop) = HasItsColumn stop.column stop.stop
-HasStatusText (status.Fault fault) = ⊤
-HasStatusText (status.Limit kind) = ⊤
-HasStatusText (status.Source name) = ⊤
-HasStatusText status.Sink = ⊤
-HasStatusText status.NoMemory = ⊤
+-- whether no name, number or cause goes into the text of a status
+abbrev pub has_fixed_text : Status → Bool
+has_fixed_text status.Done = true
+has_fixed_text status.Usage = true
+has_fixed_text (status.Script stop) = false
+has_fixed_text (status.Schedule line) = false
+has_fixed_text (status.Data stop) = false
+has_fixed_text (status.Fault fault) = false
+has_fixed_text (status.Limit kind) = false
+has_fixed_text (status.Source name) = false
+has_fixed_text status.Sink = true
+has_fixed_text status.NoMemory = true
 
 an_unknown_column : ScriptStop
 an_unknown_column = script_stop.Typing 4 (Some 2) type_kind.ColumnUnknown

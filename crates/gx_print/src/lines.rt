@@ -1,8 +1,7 @@
 //! Lines of `csv` over one vector of bytes, written field by field.
 //!
-//! A writer of `csv` refuses a line that has another number of fields than the first, which no
-//! caller writes, and otherwise fails only as what it writes to does. Here that is memory, so each
-//! of its errors is `NoMemory`.
+//! The writer takes lines of any number of fields, and fails only as what it writes to does. Here that
+//! is memory, so each of its errors is `NoMemory`.
 
 ghost use Rattle.std.specs.Prelude.{◌≡◌, ◌++◌, IfOk, OnOk};
 ghost use Rattle.gx_print.specs.RowTexts.{line_of_fields, line_of_row};

@@ -1,7 +1,6 @@
 //! The text of rows: a header line and a line for each row, as `csv` writes them.
 
-ghost use Rattle.std.specs.Prelude.{◌≡◌, IfOk, length, map, vec_len};
-ghost use Rattle.std.specs.List.{All};
+ghost use Rattle.std.specs.Prelude.{◌≡◌, IfOk, map};
 ghost use Rattle.gx_print.specs.RowTexts.{text_of_rows};
 
 use crate::lines::{into_bytes, write_names, write_values};
@@ -18,10 +17,12 @@ use std::alloc::Global;
 ///
 /// `NoMemory` if memory for the text runs out.
 pub fn rows_text(alloc: Global, header: &[Text], rows: &[Vec<Value>]) -> Result<Text, NoMemory>
-    requires { All (λ row. vec_len row ≡ length header.now) rows.now }
     ensures { IfOk result (λ text. text ≡ text_of_rows header.now (map (λ row. row.items) rows.now)) }
 {
-    let mut writer = WriterBuilder::new().from_writer(Vec::new(alloc));
+    // A line of another length than the header's is no refusal.
+    let mut writer = WriterBuilder::new()
+        .flexible(true)
+        .from_writer(Vec::new(alloc));
     let mut list = String::new(alloc);
     write_names(&mut writer, header)?;
     for row in rows {

@@ -27,8 +27,8 @@ pub enum ScriptStop {
 pub struct DataStop {
     /// The file's name.
     pub file: Text,
-    /// The name of the column, if the refused position is a column's: there is one exactly if
-    /// `stop` is a `Header` or a `Cell`.
+    /// The name of the column, if the refused position is a column's, which it is if `stop` is a
+    /// `Header` or a `Cell`.
     pub column: Option<Text>,
     /// The first refused position.
     pub stop: RowStop,

@@ -1,10 +1,10 @@
 //! The line that tells why a run ended.
 
-ghost use Rattle.std.specs.Prelude.{◌≡◌, IfOk, Some, string_bytes};
+ghost use Rattle.std.specs.Prelude.{◌≡◌, IfOk, IfSome, Some, is_some, string_bytes};
 ghost use Rattle.gx_print.specs.StatusLines.{
-  HasStatusText,
   data_line,
   fault_line,
+  has_fixed_text,
   key_text,
   limit_line,
   name_or_empty,
@@ -26,15 +26,41 @@ const USAGE: &str =
     "usage: gx run SCRIPT [--parts N] [--cut 1d|2d|random|canonical|rows] [--workers N] \
      [--schedule FILE] [--report] | gx show SCRIPT | gx sample SEED N\n";
 
+// The output could not be written.
+const SINK: &str = "sink\n";
+
+// Out of memory.
+const NO_MEMORY: &str = "no memory\n";
+
+/// The text of a status for which no memory is needed, as `status_text` returns it: that of `Done`,
+/// which is empty, of `Usage`, `Sink` and `NoMemory`. `None` for each other status.
+#[tactic(auto, unfolding(crate::specs::StatusLines::text_of_status))]
+pub fn fixed_text(status: &Status) -> Option<&'static str>
+    ensures exact { IfSome result (λ text. text.now ≡ text_of_status status.now) }
+    ensures fixed { is_some result ≡ has_fixed_text status.now }
+{
+    match status {
+        Status::Done => Some(""),
+        Status::Usage => Some(USAGE),
+        Status::Sink => Some(SINK),
+        Status::NoMemory => Some(NO_MEMORY),
+        Status::Script(_)
+        | Status::Schedule(_)
+        | Status::Data(_)
+        | Status::Fault(_)
+        | Status::Limit(_)
+        | Status::Source(_) => None,
+    }
+}
+
 /// The line that is written to the error output if a run ends with this status, its line feed
-/// included. `Done` has none, so it may not be passed, and a refused column must have its name.
+/// included. `Done` has none: its text is empty.
 ///
 /// # Errors
 ///
 /// `NoMemory` if memory for the text runs out.
 #[tactic(auto, unfolding(crate::specs::StatusLines::text_of_status))]
 pub fn status_text(alloc: Global, status: &Status) -> Result<Text, NoMemory>
-    requires { HasStatusText status.now }
     ensures { IfOk result (λ text. text ≡ text_of_status status.now) }
 {
     let line = match status {
@@ -46,8 +72,8 @@ pub fn status_text(alloc: Global, status: &Status) -> Result<Text, NoMemory>
         Status::Fault(fault) => fault_line(alloc, fault)?,
         Status::Limit(kind) => limit_line(alloc, *kind)?,
         Status::Source(name) => source_line(alloc, name)?,
-        Status::Sink => String::from_str(alloc, "sink\n")?,
-        Status::NoMemory => String::from_str(alloc, "no memory\n")?,
+        Status::Sink => String::from_str(alloc, SINK)?,
+        Status::NoMemory => String::from_str(alloc, NO_MEMORY)?,
     };
     Text::from_string(alloc, line)
 }

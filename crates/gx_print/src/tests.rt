@@ -1,10 +1,8 @@
 //! Texts, to the byte. The expected texts are written by hand.
 
-ghost use Rattle.gx_print.specs.StatusLines.{HasStatusText};
-
 use crate::{
     Cause, CellKind, DataStop, Fault, LimitKind, RowKey, RowStop, ScriptStop, Status, SyntaxKind,
-    TypeKind, rows_text, status_text,
+    TypeKind, fixed_text, rows_text, status_text,
 };
 use gx_rows::{IdList, NoMemory, Row, Text, Value, Vid};
 use std::alloc::Global;
@@ -18,9 +16,7 @@ fn assert_ends(
     status: &Status,
     code: u8,
     want: &str,
-) -> Result<(), Fail>
-    requires { HasStatusText status.now }
-{
+) -> Result<(), Fail> {
     assert_eq!(rt; status_text(alloc, status)?.as_str(), want);
     assert_eq!(rt; status.code(), code, "{want}");
     Ok(())
@@ -33,7 +29,11 @@ fn text(alloc: Global, chars: &str) -> Result<Text, NoMemory> {
 #[test]
 fn plain_statuses(rt: HostRuntime) -> Result<(), Fail> {
     let alloc = rt.alloc();
-    assert_eq!(rt; Status::Done.code(), 0);
+    assert_ends(&rt, alloc, &Status::Done, 0, "")?;
+    assert_eq!(rt; fixed_text(&Status::Done), Some(""));
+    assert_eq!(rt; fixed_text(&Status::Sink), Some("sink\n"));
+    assert_eq!(rt; fixed_text(&Status::NoMemory), Some("no memory\n"));
+    assert_eq!(rt; fixed_text(&Status::Schedule(2)), None);
     assert_ends(
         &rt,
         alloc,
@@ -296,8 +296,6 @@ fn assert_prints(
     rows: &[Vec<Value>],
     want: &str,
 ) -> Result<(), Fail> {
-    let columns = header.len();
-    assert!(rt; rows.iter().all(|row| row.len() == columns));
     assert_eq!(rt; rows_text(alloc, header, rows)?.as_str(), want);
     Ok(())
 }
@@ -362,6 +360,21 @@ fn rows_of_each_kind(rt: HostRuntime) -> Result<(), Fail> {
          -9223372036854775808,,false,\n\
          9223372036854775807,höhe,true,-9223372036854775808 9223372036854775807\n\
          0,a b,false,0\n",
+    )
+}
+
+#[test]
+fn rows_longer_than_their_header(rt: HostRuntime) -> Result<(), Fail> {
+    let alloc = rt.alloc();
+    let header = names(alloc, &["a"])?;
+    let mut rows = Vec::new(alloc);
+    rows.push(row(alloc, 1, "b", true, &[])?)?;
+    assert_prints(
+        &rt,
+        alloc,
+        header.as_slice(),
+        rows.as_slice(),
+        "a\n1,b,true,\n",
     )
 }
 
