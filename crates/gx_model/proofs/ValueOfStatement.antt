@@ -11,7 +11,7 @@ use Rattle.gx_types_stmts.specs.declared.typed_stmt.TypedStmt.{TypedStmt}
 use Rattle.gx_types_stmts.specs.declared.typed_stmt.TypedStmt.TheVariants as stmts
 use Rattle.gx_model.specs.Graphs.{Graph, graph_of}
 use Rattle.gx_types_stmts.specs.StmtNumbers.{named_numbers}
-use Rattle.gx_model.specs.Values.{LoadedRows, mapped_vertices, value_named, value_of_stmt, values_from, values_of_script}
+use Rattle.gx_model.specs.Values.{LoadedRows, mapped_vertices, value_named, value_of_stmt, values_of_stmts, values_of_script}
 use Rattle.gx_model.proofs.NumberLists.{all_map}
 
 slice_get-append : {X : Type 0} (xs ys : List X) (i : ℕ) → i < length xs → slice_get (xs ++ ys) i ≡ slice_get xs i
@@ -33,12 +33,12 @@ module _ {Place : Type 0} (place : ℕ → Edge → Place) (loads : LoadedRows) 
   value_of_stmt-same vs ws s _ same = refl
 
   -- the values before stay
-  values_from-front : (before : List (Graph Place)) (s : ℕ) (stmts : List TypedStmt) (i : ℕ) → i < length before
-      → slice_get (values_from place loads before s stmts) i ≡ slice_get before i
-  values_from-front before s [] i within = refl
-  values_from-front before s (stmt ∷ stmts) i within =
+  values_of_stmts-front : (before : List (Graph Place)) (s : ℕ) (stmts : List TypedStmt) (i : ℕ) → i < length before
+      → slice_get (values_of_stmts place loads before s stmts) i ≡ slice_get before i
+  values_of_stmts-front before s [] i within = refl
+  values_of_stmts-front before s (stmt ∷ stmts) i within =
       let value = value_of_stmt place loads before s stmt in
-      values_from-front (before ++ value ∷ []) (s + 1) stmts i (omega (arith, length-append before (value ∷ [])))
+      values_of_stmts-front (before ++ value ∷ []) (s + 1) stmts i (omega (arith, length-append before (value ∷ [])))
       ∙ slice_get-append before (value ∷ []) i within
 
   -- statement s has its value at this index of all values, by others that agree with them below it
@@ -48,7 +48,7 @@ module _ {Place : Type 0} (place : ℕ → Edge → Place) (loads : LoadedRows) 
     value : slice_get all index ≡ Some (value_of_stmt place loads others s stmt)
 
   value_at : (before : List (Graph Place)) (first : ℕ) (stmts : List TypedStmt) (k index s : ℕ) (stmt : TypedStmt) → index ≡ length before + k → s ≡ first + k → slice_get stmts k ≡ Some stmt
-      → HasValueAt (values_from place loads before first stmts) index s stmt
+      → HasValueAt (values_of_stmts place loads before first stmts) index s stmt
   value_at before first [] k index s stmt ei es at = cc
   value_at before first (t ∷ stmts) zero index s stmt ei es at =
       let value = value_of_stmt place loads before first t in
@@ -57,9 +57,9 @@ module _ {Place : Type 0} (place : ℕ → Edge → Place) (loads : LoadedRows) 
       let same : t ≡ stmt = cc in
       record {
         others = before;
-        agree = λ i within. sym (values_from-front before first (t ∷ stmts) i (omega arith));
-        value = ap (slice_get (values_from place loads before first (t ∷ stmts))) here
-            ∙ values_from-front (before ++ value ∷ []) (first + 1) stmts (length before) (omega (arith, length-append before (value ∷ [])))
+        agree = λ i within. sym (values_of_stmts-front before first (t ∷ stmts) i (omega arith));
+        value = ap (slice_get (values_of_stmts place loads before first (t ∷ stmts))) here
+            ∙ values_of_stmts-front (before ++ value ∷ []) (first + 1) stmts (length before) (omega (arith, length-append before (value ∷ [])))
             ∙ slice_get-seam before value []
             ∙ ap₂ (λ n x. Some (value_of_stmt place loads before n x)) number same;
       }

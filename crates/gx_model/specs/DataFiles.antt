@@ -77,14 +77,18 @@ nothing_loaded = record { loads = []; bytes = 0; rows = 0 }
 abbrev pub sum_within : LimitKind → ℕ → Result ℕ Status
 sum_within kind sum = if nat_lt (most_of kind) sum then Err (status.Limit kind) else Ok sum
 
--- the file of statement s: its source, its size, the sum of sizes, its rows, the sum of rows
-abbrev pub with_file : Contents → ℕ → DataFile → LoadedSoFar → Result LoadedSoFar Status
-with_file contents s f so_far =
-    bytes_within limit_kind.FileBytes (file_name f) contents >>= λ bytes.
+-- the bytes of the file of statement s: the sum of sizes, its rows, the sum of rows
+abbrev pub with_bytes : ℕ → DataFile → List ℕ → LoadedSoFar → Result LoadedSoFar Status
+with_bytes s f bytes so_far =
     sum_within limit_kind.AllBytes (so_far.bytes + length bytes) >>= λ all_bytes.
     rows_or_refusal f (rows_in_file f bytes) >>= λ rows.
     sum_within limit_kind.AllRows (so_far.rows + length rows) >>= λ all_rows.
     Ok (record { loads = so_far.loads ++ (s, rows) ∷ []; bytes = all_bytes; rows = all_rows })
+
+-- the file of statement s: its source and its size, and then its bytes
+abbrev pub with_file : Contents → ℕ → DataFile → LoadedSoFar → Result LoadedSoFar Status
+with_file contents s f so_far =
+    bytes_within limit_kind.FileBytes (file_name f) contents >>= λ bytes. with_bytes s f bytes so_far
 
 abbrev pub with_file_if : Contents → ℕ → Option DataFile → LoadedSoFar → Result LoadedSoFar Status
 with_file_if contents s None so_far = Ok so_far

@@ -77,11 +77,11 @@ value_of_stmt place loads values s (stmts.MapVertices g sets) = record {
 value_of_stmt place loads values s _ = record { vertices = []; edges = [] }
 
 -- the values of the statements from number s on, after those before them
-abbrev pub values_from : {Place : Type 0} → (ℕ → Edge → Place) → LoadedRows → List (Graph Place) → ℕ → List TypedStmt → List (Graph Place)
-values_from place loads before s [] = before
-values_from place loads before s (stmt ∷ stmts) =
-    values_from place loads (before ++ value_of_stmt place loads before s stmt ∷ []) (s + 1) stmts
+abbrev pub values_of_stmts : {Place : Type 0} → (ℕ → Edge → Place) → LoadedRows → List (Graph Place) → ℕ → List TypedStmt → List (Graph Place)
+values_of_stmts place loads before s [] = before
+values_of_stmts place loads before s (stmt ∷ stmts) =
+    values_of_stmts place loads (before ++ value_of_stmt place loads before s stmt ∷ []) (s + 1) stmts
 
 -- the value of each statement of a script, in order
 abbrev pub values_of_script : {Place : Type 0} → (ℕ → Edge → Place) → LoadedRows → List TypedStmt → List (Graph Place)
-values_of_script place loads stmts = values_from place loads [] 1 stmts
+values_of_script place loads stmts = values_of_stmts place loads [] 1 stmts

@@ -1,10 +1,7 @@
+pub mod ActionTexts
 pub mod Args
-pub mod Codes
-pub mod Lines
+pub mod LoadedFiles
 pub mod Meaning
 pub mod RunResults
-pub mod Scripts
-pub mod Spelling
+pub mod ScriptFile
 pub mod Steps
-pub mod Tables
-pub mod Texts

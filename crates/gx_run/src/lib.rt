@@ -1,22 +1,24 @@
 //! The top call: a whole run of `gx`, from its arguments to the bytes that it writes.
 //!
-//! `run` reads the script that the arguments name, loads its data file and writes the text of its
-//! table. What a run produces is defined in `specs/Meaning.antt` over plain lists, and clauses of
-//! `run` say that its status and the bytes written are just that. The crate depends on `gx_rows`,
-//! `gx_outside`, `gx_load`, `csv` and `itoa`, and the program `gx` calls it. It never sees a real
-//! file or stream.
+//! `run` reads the script that the arguments name, checks it, reads all data files that it loads, and
+//! then writes the text of each action in order. What a run means is defined in `specs/Meaning.antt`
+//! over plain lists, and clauses of `run` say that its status and the bytes written are just that.
+//! The crate puts together what the crates below do: `gx_syntax` parses, `gx_types` checks,
+//! `gx_load` reads rows, `gx_lists` answers actions, and `gx_print` makes texts. The program `gx`
+//! calls it. It never sees a real file or stream, and names no statement that is not a load.
 #![tactic(auto)]
 
-mod columns;
-mod pipeline;
+mod actions;
+mod data_file;
+mod fetch;
+mod file_rows;
+mod loads;
 mod script;
-mod spelling;
-mod status;
-mod table;
+mod telling;
 #[cfg(test)]
 mod tests;
-mod text;
 mod top;
 
-pub use status::{DataStop, ScriptStop, Status, SyntaxKind};
+pub use gx_print::{DataStop, ScriptStop, Status};
+pub use telling::tell;
 pub use top::run;

@@ -1,63 +1,47 @@
-//! Files, sinks and arguments for whole runs, and the end of a run as a text.
+//! Files, sinks and arguments for whole runs.
 
-ghost use Rattle.std.specs.Prelude.{◌≤◌, All, IfOk};
+ghost use Rattle.std.specs.Prelude.{◌≤◌};
 
-use crate::{DataStop, ScriptStop, Status, run};
-use gx_load::RowStop;
+use crate::run;
 use gx_outside::{MemFiles, MemSink};
 use gx_rows::NoMemory;
 use std::alloc::{AllocError, Global};
 use std::process::Abort;
 use std::test::Fail;
 
-/// The script that most rows run.
-pub(super) const AGES: &str = "vertices a from \"ages.csv\" (age: int); print table a;";
+/// A table, an edge collection and a graph of both.
+pub(super) const GRAPH: &str = "vertices people from \"people.csv\" (name: text, age: int); \
+     edges knows from \"knows.csv\" (w: int); graph g = people, knows default (\"?\", 0); ";
 
-/// How a graph is cut into partitions.
-#[derive(Clone, Copy, Debug)]
-pub(super) enum Cut {
-    /// By the edge's position in its file.
-    Rows,
-}
+// The files that each run finds, unless a row has one of the same name.
+const FILES: [(&str, &str); 7] = [
+    ("people.csv", "id,name,age\n3,ann,30\n1,bob,25\n2,eve,17\n"),
+    ("knows.csv", "src,dst,w\n1,2,4\n2,3,1\n3,1,7\n1,2,6\n"),
+    ("loop.csv", "src,dst,w\n9,9,1\n"),
+    ("ages.csv", "id,age\n3,30\n1,25\n"),
+    ("links.csv", "src,dst,w\n1,2,4\n2,3,1\n"),
+    ("cut.csv", "id,name\n1,\"bob"),
+    ("follow.txt", "# follower\n1 2\n2\t3\n\n3 1 extra\n"),
+];
 
-/// A configuration of a run. The output of a run is the same under each.
-#[derive(Clone, Copy, Debug)]
-pub(super) struct Config {
-    pub(super) cut: Cut,
-    pub(super) partitions: u32,
-    pub(super) workers: u32,
-}
-
-/// The configurations that each row is run under. There is one, since no option chooses another
-/// yet.
-pub(super) const CONFIGS: [Config; 1] = [Config {
-    cut: Cut::Rows,
-    partitions: 1,
-    workers: 1,
-}];
-
-/// What fails in a run: the open or read of this number, the write of this number, and the most
-/// bytes that the first write takes; 0 if it takes all.
+/// What fails in a run: the opens and reads of these numbers, counted together, the writes of these
+/// numbers to `out` and to `err`, and the most bytes that the first write to `out` takes, if there
+/// is such a number.
 #[derive(Clone, Copy)]
 pub(super) struct Faults {
     pub(super) read: Option<u64>,
-    pub(super) write: Option<u64>,
-    pub(super) piece: usize,
+    pub(super) out: Option<u64>,
+    pub(super) err: Option<u64>,
+    pub(super) first: Option<usize>,
 }
 
 /// Nothing fails.
 pub(super) const NONE: Faults = Faults {
     read: None,
-    write: None,
-    piece: 0,
+    out: None,
+    err: None,
+    first: None,
 };
-
-/// What a run wrote to `out`, and its end as a text.
-#[derive(Drop)]
-pub(super) struct Outcome {
-    pub(super) written: String,
-    pub(super) end: String,
-}
 
 // The list of this item, or no item.
 fn list_of(alloc: Global, item: Option<u64>) -> Result<Vec<u64>, AllocError> {
@@ -68,24 +52,18 @@ fn list_of(alloc: Global, item: Option<u64>) -> Result<Vec<u64>, AllocError> {
     Ok(items)
 }
 
-// A sink whose first write takes at most `piece` bytes, or all if that is 0.
-fn sink_of(
-    alloc: Global,
-    piece: usize,
-    failing: Option<u64>,
-    room: usize,
-) -> Result<MemSink, NoMemory> {
+// A sink whose first write takes at most so many bytes, if there is a number, and at least one.
+fn sink_of(alloc: Global, first: Option<usize>, failing: Option<u64>) -> Result<MemSink, NoMemory> {
     let failing = list_of(alloc, failing)?;
-    let pieces = if piece > 0 {
-        vec![in alloc; piece]?
-    } else {
-        Vec::new(alloc)
-    };
-    MemSink::of(alloc, pieces, failing, room)
+    let mut pieces = Vec::new(alloc);
+    if let Some(first) = first {
+        pieces.push(first.max(1)).map_err(|_| NoMemory)?;
+    }
+    MemSink::of(alloc, pieces, failing, 400)
 }
 
-/// These arguments, owned.
-pub(super) fn args_of(alloc: Global, args: &[&str]) -> Result<Vec<String>, AllocError> {
+// These arguments, owned.
+fn args_of(alloc: Global, args: &[&str]) -> Result<Vec<String>, AllocError> {
     let mut owned = Vec::new(alloc);
     for arg in args {
         owned.push(String::from_str(alloc, *arg)?)?;
@@ -98,18 +76,19 @@ fn add_file(
     alloc: Global,
     files: &mut Vec<(String, Vec<u8>)>,
     name: &str,
-    bytes: Vec<u8>,
+    bytes: &[u8],
 ) -> Result<(), AllocError> {
     let name = String::from_str(alloc, name)?;
+    let bytes = Vec::from_slice(alloc, bytes)?;
     files.push((name, bytes))?;
     Ok(())
 }
 
-// The files `s.gx` and `ages.csv`.
-fn files_of(
+/// The script `s.gx`, this file, and the files that each run finds. A read gives at most `piece` bytes.
+pub(super) fn files_of(
     alloc: Global,
-    script: Vec<u8>,
-    data: Vec<u8>,
+    script: &[u8],
+    file: (&str, &[u8]),
     piece: usize,
     failing: Option<u64>,
 ) -> Result<MemFiles, AllocError>
@@ -118,99 +97,44 @@ fn files_of(
     let failing = list_of(alloc, failing)?;
     let mut files = Vec::new(alloc);
     add_file(alloc, &mut files, "s.gx", script)?;
-    add_file(alloc, &mut files, "ages.csv", data)?;
+    add_file(alloc, &mut files, file.0, file.1)?;
+    for (name, text) in FILES {
+        add_file(alloc, &mut files, name, text.as_bytes())?;
+    }
     Ok(MemFiles::of(files, piece, failing))
 }
 
-// The status as a text, with what it carries.
-fn end_of(alloc: Global, status: &Status) -> Result<String, AllocError> {
-    let code = status.code();
-    match status {
-        Status::Done => format!(in alloc; "{code}"),
-        Status::Usage => format!(in alloc; "{code} usage"),
-        Status::Script(ScriptStop::Syntax(offset, _)) => format!(in alloc;
-            "{code} script {offset}"
-        ),
-        Status::Data(stop) => data_end(alloc, code, stop),
-        Status::Limit(kind) => format!(in alloc; "{code} limit {kind:?}"),
-        Status::Source(name) => {
-            let name = name.as_str();
-            format!(in alloc; "{code} source {name}")
-        }
-        Status::Sink => format!(in alloc; "{code} sink"),
-        Status::NoMemory => format!(in alloc; "{code} no memory"),
-    }
-}
-
-fn data_end(alloc: Global, code: u8, stop: &DataStop) -> Result<String, AllocError> {
-    let file = stop.file.as_str();
-    let column = match &stop.column {
-        Some(column) => column.as_str(),
-        None => "-",
-    };
-    match stop.stop {
-        RowStop::Header(_) => format!(in alloc; "{code} {file}: {column} missing"),
-        RowStop::Shape(row) => format!(in alloc; "{code} {file}: row {row} shape"),
-        RowStop::Cell { row, .. } => format!(in alloc; "{code} {file}: row {row} {column}"),
-        RowStop::Line(line) => format!(in alloc; "{code} {file}: line {line}"),
-    }
-}
-
-/// Runs `gx` with these arguments over these files.
-pub(super) fn outcome_over(
+/// Stops the test unless a run with these arguments over these files writes `out` and `err` and ends
+/// with this exit status.
+pub(super) fn assert_ends(
+    rt: &impl Abort,
     alloc: Global,
     args: &[&str],
     files: &mut MemFiles,
     faults: Faults,
-) -> Result<Outcome, Fail> {
+    end: (&str, &str, u8),
+) -> Result<(), Fail> {
     let args = args_of(alloc, args)?;
-    let mut out = sink_of(alloc, faults.piece, faults.write, 100)?;
-    let mut err = sink_of(alloc, 0, None, 0)?;
+    let mut out = sink_of(alloc, faults.first, faults.out)?;
+    let mut err = sink_of(alloc, None, faults.err)?;
     let status = run(alloc, args.as_slice(), files, &mut out, &mut err);
-    let written = String::from_str(alloc, str::from_utf8(out.bytes())?)?;
-    let end = end_of(alloc, &status)?;
-    Ok(Outcome { written, end })
+    assert_eq!(rt; str::from_utf8(err.bytes())?, end.1);
+    assert_eq!(rt; str::from_utf8(out.bytes())?, end.0);
+    assert_eq!(rt; status.code(), end.2);
+    Ok(())
 }
 
-/// Runs `run s.gx` over this script and this file `ages.csv`, which are read in pieces.
-pub(super) fn outcome_of(
-    alloc: Global,
-    script: Vec<u8>,
-    data: Vec<u8>,
-    piece: usize,
-    faults: Faults,
-) -> Result<Outcome, Fail>
-    requires { 1 ≤ piece }
-{
-    let mut files = files_of(alloc, script, data, piece, faults.read)?;
-    outcome_over(alloc, &["run", "s.gx"], &mut files, faults)
-}
-
-/// Stops the test unless the run of this script over this data, under each configuration, writes
-/// `out` and ends with `end`.
+/// Stops the test unless the run of this script, with this file among the others, writes `out` and
+/// `err` and ends with this exit status.
 pub(super) fn assert_runs(
     rt: &impl Abort,
     alloc: Global,
     script: &str,
-    data: &str,
+    file: (&str, &str),
     faults: Faults,
-    out: &str,
-    end: &str,
+    end: (&str, &str, u8),
 ) -> Result<(), Fail> {
-    for config in CONFIGS {
-        let text = Vec::from_slice(alloc, script.as_bytes())?;
-        let rows = Vec::from_slice(alloc, data.as_bytes())?;
-        let outcome = outcome_of(alloc, text, rows, 7, faults)?;
-        assert_eq!(rt;
-            outcome.written.as_str(),
-            out,
-            "{script} over {data:?}, {config:?}"
-        );
-        assert_eq!(rt;
-            outcome.end.as_str(),
-            end,
-            "{script} over {data:?}, {config:?}"
-        );
-    }
-    Ok(())
+    let file = (file.0, file.1.as_bytes());
+    let mut files = files_of(alloc, script.as_bytes(), file, 7, faults.read)?;
+    assert_ends(rt, alloc, &["run", "s.gx"], &mut files, faults, end)
 }

@@ -1,0 +1,5 @@
+pub mod LaterStatements
+pub mod ParsedScripts
+pub mod PrintedTexts
+pub mod ReadFiles
+pub mod RunEnds
