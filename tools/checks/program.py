@@ -1,7 +1,7 @@
 """Tries the program that `./gx` runs.
 
 Every example prints what its `.out` file says, every console block of README.md and docs/ prints
-what it shows, and bad input ends with its status and prints nothing.
+what it shows, and bad input ends with its status and its line on the error output.
 """
 
 import re
@@ -47,7 +47,7 @@ def check_console_blocks():
 
 
 def check_bad_input():
-    """Each case has the arguments and the status of the run. Nothing may be printed."""
+    """Each case has the arguments, the status of the run, and how its one line of errors begins."""
     with tempfile.TemporaryDirectory() as folder:
         here = Path(folder)
         here.chmod(0o755)
@@ -62,35 +62,39 @@ def check_bad_input():
         (here / "text.gx").write_bytes(b'vertices a from "\xff" (age: int); print table a;')
         (here / "empty.gx").write_bytes(b"")
         cases = [
-            ([], 2),
-            (["run"], 2),
-            (["show", "s.gx"], 2),
-            (["run", "s.gx", "--parts"], 2),
-            ([b"run", b"\xff\xfe"], 2),
-            (["run", "none.gx"], 4),
-            (["run", "."], 4),
-            (["run", ""], 4),
-            (["run", "absent.gx"], 4),
-            (["run", "folder.gx"], 4),
-            (["run", "nameless.gx"], 4),
-            (["run", "zero.gx"], 4),
-            (["run", "random.gx"], 1),
-            (["run", "text.gx"], 1),
-            (["run", "empty.gx"], 1),
+            ([], 2, "usage: gx run SCRIPT "),
+            (["run"], 2, "usage: "),
+            (["show", "s.gx"], 2, "usage: "),
+            (["run", "s.gx", "--parts"], 2, "usage: "),
+            ([b"run", b"\xff\xfe"], 2, "usage: "),
+            (["run", "none.gx"], 4, "source: none.gx\n"),
+            (["run", "."], 4, "source: .\n"),
+            (["run", ""], 4, "source: \n"),
+            (["run", "absent.gx"], 4, "source: none.csv\n"),
+            (["run", "folder.gx"], 4, "source: .\n"),
+            (["run", "nameless.gx"], 4, "source: \n"),
+            (["run", "zero.gx"], 4, "source: a\0b\n"),
+            (["run", "random.gx"], 1, "script: byte "),
+            (["run", "text.gx"], 1, "script: byte 17: not UTF-8\n"),
+            (["run", "empty.gx"], 0, ""),
         ]
-        for words, status in cases:
+        for words, status, line in cases:
             ended = run([GX, *words], here)
+            error = ended.stderr.decode()
             problem = None
             if ended.returncode != status:
                 problem = f"status {ended.returncode} for {status}"
             elif ended.stdout:
                 problem = f"printed {ended.stdout!r}"
+            elif not error.startswith(line) or error.count("\n") != (1 if line else 0):
+                problem = f"told {error!r} for {line!r}"
             judge(f"bad input {words}", problem)
 
         with open("/dev/full", "wb") as full:
-            streams = {"stdout": full, "stderr": subprocess.DEVNULL}
-            status = subprocess.run([GX, "run", "s.gx"], cwd=here, **streams).returncode
-        judge("output to a full device", None if status == 5 else f"status {status}")
+            streams = {"stdout": full, "stderr": subprocess.PIPE}
+            ended = subprocess.run([GX, "run", "s.gx"], cwd=here, **streams)
+        end = (ended.returncode, ended.stderr)
+        judge("output to a full device", None if end == (5, b"sink\n") else f"ended with {end}")
 
         (here / "s.gx").chmod(0)
         program = shutil.copy(output_of("tools/program"), here / "gx")
