@@ -1,5 +1,5 @@
 -- From the result of a traversal to the rows and the first fault of a kernel.
-use Rattle.std.proofs.Common.{◌≡◌, ℕ, Bool, true, false, cond, List, [], ◌∷◌, map, zip, filter, filter_map, slice_get, Option, Some, None, option_map, Result, Ok, Err, IfOk, refl, sym, ap, ◌∙◌}
+use Rattle.std.proofs.Common.{◌≡◌, ℕ, Bool, true, false, cond, List, [], ◌∷◌, map, zip, filter, slice_get, Option, Some, None, option_map, Result, Ok, Err, IfOk, refl, sym, ap, ◌∙◌}
 use Rattle.std.proofs.lemmas.Option.{none-some}
 use Rattle.std.specs.List.{cons_option}
 use Rattle.std.specs.Map.{keys_of}
@@ -17,7 +17,7 @@ use Rattle.gx_rows.specs.declared.vid.Vid.{Vid}
 use Rattle.gx_expr.specs.Evaluates.{EvaluatesTo}
 use Rattle.gx_traverse.specs.Traversal.{AgreesWith, IsResultOf, traversal_of, with_key}
 use Rattle.gx_vpart.specs.Operators.{VertexRow, left_join, picked, row_at}
-use Rattle.gx_vtable.specs.Kernels.{Gives, KeepsRows, MakesRows, fault_at, first_fault, rows_kept, rows_made}
+use Rattle.gx_vtable.specs.Kernels.{Gives, KeepsRows, MakesRows, VertexFault, fault_if, faults_at, first_fault, rows_kept, rows_made, stop_of_fault}
 use Rattle.gx_vtable.specs.NewRows.{join_id, vertex_id}
 
 -- an evaluation that gives what is defined agrees with the function that is defined
@@ -27,29 +27,26 @@ agrees (Err (eval_stop.Fault cause node)) meant h = h
 agrees (Err eval_stop.NoMemory) meant h = h
 
 -- what a traversal gives is these rows, made of its values, without a fault, or this fault
-abbrev Shows : {B : Type 0} → (List B → List VertexRow) → List VertexRow → Option PartStop → Result (List B) (RowKey × ℕ × Cause) → Type 0
+abbrev Shows : {B : Type 0} → (List B → List VertexRow) → List VertexRow → Option VertexFault → Result (List B) (RowKey × ℕ × Cause) → Type 0
 Shows made rows fault (Ok ys) = (made ys ≡ rows) × (fault ≡ None)
-Shows made rows fault (Err e) = fault ≡ Some (part_stop.Fault e.0 e.1 e.2)
+Shows made rows fault (Err e) = option_map stop_of_fault fault ≡ Some (part_stop.Fault e.0 e.1 e.2)
 
 -- a result that is made of what a traversal gives is what a kernel gives
-gives-shown : {B : Type 0} (made : List B → List VertexRow) (rows : List VertexRow) (fault : Option PartStop) (meant : Result (List B) (RowKey × ℕ × Cause)) (result : Result (List VertexRow) PartStop)
+gives-shown : {B : Type 0} (made : List B → List VertexRow) (rows : List VertexRow) (fault : Option VertexFault) (meant : Result (List B) (RowKey × ℕ × Cause)) (result : Result (List VertexRow) PartStop)
     → Shows made rows fault meant → IsResultOf (λ ys new. new ≡ made ys) result meant → Gives rows fault result
 gives-shown made rows fault meant (Ok new) shows is = let h = rw is.1 at shows in (is.2 ∙ h.0, h.1)
 gives-shown made rows fault meant (Err part_stop.NoMemory) shows is = tt
 gives-shown made rows fault meant (Err (part_stop.Fault key node cause)) shows is = rw is at shows
 
 module _ {A : Type 0} (id_of : A → Vid) (row_of : A → Result (List Value) (Cause × ℕ)) where
-  abbrev faults_of : List A → List PartStop
-  faults_of xs = filter_map (λ x. fault_at (id_of x) (row_of x)) xs
-
   shows-rows : (xs : List A) → Shows (λ rows. zip (map id_of xs) rows) (rows_made id_of row_of xs) (first_fault id_of row_of xs) (traversal_of (λ x. row_key.Vertex (id_of x)) row_of xs)
   unfolding traversal_of
   shows-rows [] = (refl, refl)
-  shows-rows (x ∷ xs) = by (row_of x) (traversal_of (λ x. row_key.Vertex (id_of x)) row_of xs) (rows_made id_of row_of xs) (faults_of xs) (shows-rows xs)
+  shows-rows (x ∷ xs) = by (row_of x) (traversal_of (λ x. row_key.Vertex (id_of x)) row_of xs) (rows_made id_of row_of xs) (faults_at id_of row_of xs) (shows-rows xs)
     where
-      by : (r : Result (List Value) (Cause × ℕ)) (rest : Result (List (List Value)) (RowKey × ℕ × Cause)) (rows : List VertexRow) (faults : List PartStop)
+      by : (r : Result (List Value) (Cause × ℕ)) (rest : Result (List (List Value)) (RowKey × ℕ × Cause)) (rows : List VertexRow) (faults : List VertexFault)
           → Shows (λ ys. zip (map id_of xs) ys) rows (slice_get faults 0) rest
-          → Shows (λ ys. zip (id_of x ∷ map id_of xs) ys) (cons_option (option_map (λ row. (id_of x, row)) (result_ok r)) rows) (slice_get (cons_option (fault_at (id_of x) r) faults) 0) (try_cons (with_key (row_key.Vertex (id_of x)) r) rest)
+          → Shows (λ ys. zip (id_of x ∷ map id_of xs) ys) (cons_option (option_map (λ row. (id_of x, row)) (result_ok r)) rows) (slice_get (cons_option (fault_if (id_of x) r) faults) 0) (try_cons (with_key (row_key.Vertex (id_of x)) r) rest)
       by (Ok row) (Ok ys) rows faults h = (ap (λ more. (id_of x, row) ∷ more) h.0, h.1)
       by (Ok row) (Err e) rows faults h = h
       by (Err f) (Ok ys) rows faults h = refl
@@ -58,9 +55,9 @@ module _ {A : Type 0} (id_of : A → Vid) (row_of : A → Result (List Value) (C
   -- if no item has a fault, no identifier is left out
   ids-of_rows : (xs : List A) → first_fault id_of row_of xs ≡ None → keys_of (rows_made id_of row_of xs) ≡ map id_of xs
   ids-of_rows [] none = refl
-  ids-of_rows (x ∷ xs) none = by (row_of x) (faults_of xs) none (ids-of_rows xs)
+  ids-of_rows (x ∷ xs) none = by (row_of x) (faults_at id_of row_of xs) none (ids-of_rows xs)
     where
-      by : (r : Result (List Value) (Cause × ℕ)) (faults : List PartStop) → slice_get (cons_option (fault_at (id_of x) r) faults) 0 ≡ None
+      by : (r : Result (List Value) (Cause × ℕ)) (faults : List VertexFault) → slice_get (cons_option (fault_if (id_of x) r) faults) 0 ≡ None
           → (slice_get faults 0 ≡ None → keys_of (rows_made id_of row_of xs) ≡ map id_of xs)
           → keys_of (cons_option (option_map (λ row. (id_of x, row)) (result_ok r)) (rows_made id_of row_of xs)) ≡ id_of x ∷ map id_of xs
       by (Ok row) faults none more = ap (λ ids. id_of x ∷ ids) (more none)
@@ -83,9 +80,9 @@ unfolding traversal_of
 shows-kept holds [] = (refl, refl)
 shows-kept holds (x ∷ xs) = by (holds x) (traversal_of (λ x. row_key.Vertex x.0) holds xs) (rows_kept holds xs) _ (shows-kept holds xs)
   where
-    by : (r : Result Bool (Cause × ℕ)) (rest : Result (List Bool) (RowKey × ℕ × Cause)) (rows : List VertexRow) (faults : List PartStop)
+    by : (r : Result Bool (Cause × ℕ)) (rest : Result (List Bool) (RowKey × ℕ × Cause)) (rows : List VertexRow) (faults : List VertexFault)
         → Shows (picked xs) rows (slice_get faults 0) rest
-        → Shows (picked (x ∷ xs)) (cond (result_unwrap_or r false) (x ∷ rows) rows) (slice_get (cons_option (fault_at x.0 r) faults) 0) (try_cons (with_key (row_key.Vertex x.0) r) rest)
+        → Shows (picked (x ∷ xs)) (cond (result_unwrap_or r false) (x ∷ rows) rows) (slice_get (cons_option (fault_if x.0 r) faults) 0) (try_cons (with_key (row_key.Vertex x.0) r) rest)
     by (Ok true) (Ok bools) rows faults h = (ap (λ more. x ∷ more) h.0, h.1)
     by (Ok false) (Ok bools) rows faults h = h
     by (Ok holds) (Err e) rows faults h = h

@@ -22,20 +22,31 @@ rows_made id_of row_of items = filter_map (λ x. option_map (λ row. (id_of x, r
 abbrev pub rows_kept : (VertexRow → Result Bool (Cause × ℕ)) → List VertexRow → List VertexRow
 rows_kept holds vertices = filter (λ v. result_unwrap_or (holds v) false) vertices
 
--- the refusal of a kernel, if there is no value at this vertex
-abbrev pub fault_at : {B : Type 0} → Vid → Result B (Cause × ℕ) → Option PartStop
-fault_at v (Ok x) = None
-fault_at v (Err f) = Some (part_stop.Fault (row_key.Vertex v) f.1 f.0)
+-- a vertex without a value, with the cause and the number of the expression node
+abbrev pub VertexFault : Type 0
+VertexFault = Vid × (Cause × ℕ)
 
--- the fault of the first item that has one
-abbrev pub first_fault : {A B : Type 0} → (A → Vid) → (A → Result B (Cause × ℕ)) → List A → Option PartStop
-first_fault id_of result_of items = slice_get (filter_map (λ x. fault_at (id_of x) (result_of x)) items) 0
+abbrev pub fault_if : {B : Type 0} → Vid → Result B (Cause × ℕ) → Option VertexFault
+fault_if v (Ok x) = None
+fault_if v (Err f) = Some (v, f)
+
+-- the faults at these items, in order
+abbrev pub faults_at : {A B : Type 0} → (A → Vid) → (A → Result B (Cause × ℕ)) → List A → List VertexFault
+faults_at id_of result_of items = filter_map (λ x. fault_if (id_of x) (result_of x)) items
+
+-- the fault at the first item that has one
+abbrev pub first_fault : {A B : Type 0} → (A → Vid) → (A → Result B (Cause × ℕ)) → List A → Option VertexFault
+first_fault id_of result_of items = slice_get (faults_at id_of result_of items) 0
+
+-- the refusal of a kernel with this fault
+abbrev pub stop_of_fault : VertexFault → PartStop
+stop_of_fault f = part_stop.Fault (row_key.Vertex f.0) f.1.1 f.1.0
 
 -- the rows, if there is no fault, or else the fault; memory may run out instead
-abbrev pub Gives : List VertexRow → Option PartStop → Result (List VertexRow) PartStop → Type 0
+abbrev pub Gives : List VertexRow → Option VertexFault → Result (List VertexRow) PartStop → Type 0
 Gives rows fault (Ok new) = (new ≡ rows) × (fault ≡ None)
 Gives rows fault (Err part_stop.NoMemory) = ⊤
-Gives rows fault (Err (part_stop.Fault key node cause)) = fault ≡ Some (part_stop.Fault key node cause)
+Gives rows fault (Err (part_stop.Fault key node cause)) = option_map stop_of_fault fault ≡ Some (part_stop.Fault key node cause)
 
 -- a kernel makes a row of each item
 abbrev pub MakesRows : {A : Type 0} → (A → Vid) → (A → Result (List Value) (Cause × ℕ)) → List A → Result (List VertexRow) PartStop → Type 0
@@ -65,5 +76,5 @@ rows_made-example : rows_made vertex_id first_column ((example_id 1, example_row
 rows_made-example = refl
 
 first_fault-example : first_fault vertex_id first_column ((example_id 1, example_row) ∷ (example_id 2, []) ∷ (example_id 3, []) ∷ [])
-    ≡ Some (part_stop.Fault (row_key.Vertex (example_id 2)) 7 cause.DivideByZero)
+    ≡ Some (example_id 2, (cause.DivideByZero, 7))
 first_fault-example = refl
