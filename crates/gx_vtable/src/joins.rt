@@ -31,7 +31,10 @@ pub fn table_inner(
     ensures exact { MakesRows join_id (inner_row sets.now) (inner_join table.now other.now) result }
     ensures ids_of_both { IfOk result (λ new. keys_of new ≡ ids_of_join (inner_join table.now other.now)) }
 {
-    table.inner_join(other, |id, row, beside| inner_row(alloc, sets, id, row, beside))
+    table.inner_join(
+        other,
+        |id, row, beside| inner_row(alloc, sets, id, row, beside),
+    )
 }
 
 /// The vertices of `table`, each with a new row: the values of `sets`, which read the row of `table`
@@ -52,25 +55,26 @@ pub fn table_left(
     ensures exact { MakesRows join_id (left_row sets.now default.now) (left_join table.now other.now) result }
     ensures ids_kept { IfOk result (λ new. keys_of new ≡ keys_of table.now) }
 {
-    table.left_join(other, |id, row, beside| left_row(alloc, sets, default, id, row, beside))
+    table.left_join(
+        other,
+        |id, row, beside| left_row(alloc, sets, default, id, row, beside),
+    )
 }
 
-fn inner_row(
-    alloc: Global,
-    sets: &[Expr],
-    id: Vid,
-    row: &Row,
-    other: &Row,
-) -> Result<Row, EvalStop>
+fn inner_row(alloc: Global, sets: &[Expr], id: Vid, row: &Row, other: &Row) -> Result<Row, EvalStop>
     ensures { EvaluatesTo result (inner_row sets.now (id, row.now, other.now)) }
 {
     let matched = true;
-    new_row(alloc, sets, &JoinScope {
-        id,
-        row,
-        other,
-        matched,
-    })
+    new_row(
+        alloc,
+        sets,
+        &JoinScope {
+            id,
+            row,
+            other,
+            matched,
+        },
+    )
 }
 
 fn left_row(
@@ -85,10 +89,14 @@ fn left_row(
 {
     let matched = other.is_some();
     let other = other.unwrap_or(default);
-    new_row(alloc, sets, &JoinScope {
-        id,
-        row,
-        other,
-        matched,
-    })
+    new_row(
+        alloc,
+        sets,
+        &JoinScope {
+            id,
+            row,
+            other,
+            matched,
+        },
+    )
 }

@@ -9,8 +9,8 @@ pub returns-clause-exact : goal.returns-clause-exact
 returns-clause-exact c =
     makes_rows vertex_id (mapped_row c.args.sets.now) c.args.table.now c.map.result
     (exact (mapped_row c.args.sets.now) c.map.ensures (λ v s r.
-        let made : EvaluatesTo s (mapped_row c.args.sets.now (v.0, r.0.now)) = search rules in
-        agrees s _ (rw r.1 at made)))
+    let made : EvaluatesTo s (mapped_row c.args.sets.now (v.0, r.0.now)) = search rules in
+    agrees s _ (rw r.1 at made)))
 
 pub returns-clause-ids_kept : goal.returns-clause-ids_kept
 returns-clause-ids_kept c = keeps_ids vertex_id (mapped_row c.args.sets.now) c.args.table.now c.map.result (returns-clause-exact c)
