@@ -1,5 +1,5 @@
 -- From the result of a traversal to the rows and the first fault of a kernel.
-use Rattle.std.proofs.Common.{◌≡◌, ℕ, Bool, true, false, cond, List, [], ◌∷◌, map, zip, filter, slice_get, Option, Some, None, option_map, Result, Ok, Err, IfOk, refl, sym, ap, ◌∙◌}
+use Rattle.std.proofs.Common.{◌≡◌, ℕ, Bool, true, false, cond, List, [], ◌∷◌, map, zip, slice_get, Option, Some, None, option_map, Result, Ok, Err, IfOk, refl, sym, ap, ◌∙◌}
 use Rattle.std.proofs.lemmas.Option.{none-some}
 use Rattle.std.specs.List.{cons_option}
 use Rattle.std.specs.Map.{keys_of}
@@ -16,7 +16,7 @@ use Rattle.gx_rows.specs.declared.value.Value.{Value}
 use Rattle.gx_rows.specs.declared.vid.Vid.{Vid}
 use Rattle.gx_expr.specs.Evaluates.{EvaluatesTo}
 use Rattle.gx_traverse.specs.Traversal.{AgreesWith, IsResultOf, traversal_of, with_key}
-use Rattle.gx_vpart.specs.Operators.{VertexRow, left_join, picked, row_at}
+use Rattle.gx_vpart.specs.Operators.{VertexRow, left_join, picked}
 use Rattle.gx_vtable.specs.Kernels.{Gives, KeepsRows, MakesRows, VertexFault, fault_if, faults_at, first_fault, rows_kept, rows_made, stop_of_fault}
 use Rattle.gx_vtable.specs.NewRows.{join_id, vertex_id}
 

@@ -1,9 +1,8 @@
 -- What an expression reads at a vertex of a table, and what comes of it there: a new row, or whether
 -- a test holds. A fault is a cause with the number of the expression node that has no value.
-use Rattle.std.specs.Prelude.{◌≡◌, ℕ, pos, Bool, true, false, List, [], ◌∷◌, Option, None, Some, is_some, Result, unwrap_or, refl}
+use Rattle.std.specs.Prelude.{ℕ, Bool, true, false, List, [], Option, None, Some, is_some, Result, unwrap_or}
 use Rattle.gx_rows.specs.declared.cause.Cause.{Cause}
 use Rattle.gx_rows.specs.declared.value.Value.{Value}
-use Rattle.gx_rows.specs.declared.value.Value.TheVariants as value
 use Rattle.gx_rows.specs.declared.vid.Vid.{Vid}
 use Rattle.gx_expr.specs.Evaluation.{ScopeValues, row_result, truth_result}
 use Rattle.gx_expr.specs.declared.expr.Expr.{Expr}

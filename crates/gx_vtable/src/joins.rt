@@ -29,7 +29,8 @@ pub fn table_inner(
     sets: &[Expr],
 ) -> Result<VPart, PartStop>
     ensures exact { MakesRows join_id (inner_row sets.now) (inner_join table.now other.now) result }
-    ensures ids_of_both { IfOk result (λ new. keys_of new ≡ ids_of_join (inner_join table.now other.now)) }
+    ensures ids_of_both { IfOk result
+        (λ new. keys_of new ≡ ids_of_join (inner_join table.now other.now)) }
 {
     table.inner_join(
         other,
@@ -37,8 +38,8 @@ pub fn table_inner(
     )
 }
 
-/// The vertices of `table`, each with a new row: the values of `sets`, which read the row of `table`
-/// as `v`, that of `other` as `o`, or `default` if `other` does not have the vertex, and as
+/// The vertices of `table`, each with a new row: the values of `sets`, which read the row of
+/// `table` as `v`, that of `other` as `o`, or `default` if `other` does not have the vertex, and as
 /// `matched` whether it has. The index of `table` is shared.
 ///
 /// # Errors
@@ -52,7 +53,8 @@ pub fn table_left(
     default: &Row,
     sets: &[Expr],
 ) -> Result<VPart, PartStop>
-    ensures exact { MakesRows join_id (left_row sets.now default.now) (left_join table.now other.now) result }
+    ensures exact { MakesRows join_id (left_row sets.now default.now)
+        (left_join table.now other.now) result }
     ensures ids_kept { IfOk result (λ new. keys_of new ≡ keys_of table.now) }
 {
     table.left_join(
@@ -64,17 +66,13 @@ pub fn table_left(
 fn inner_row(alloc: Global, sets: &[Expr], id: Vid, row: &Row, other: &Row) -> Result<Row, EvalStop>
     ensures { EvaluatesTo result (inner_row sets.now (id, row.now, other.now)) }
 {
-    let matched = true;
-    new_row(
-        alloc,
-        sets,
-        &JoinScope {
-            id,
-            row,
-            other,
-            matched,
-        },
-    )
+    let scope = JoinScope {
+        id,
+        row,
+        other,
+        matched: true,
+    };
+    new_row(alloc, sets, &scope)
 }
 
 fn left_row(
@@ -85,18 +83,14 @@ fn left_row(
     row: &Row,
     other: Option<&Row>,
 ) -> Result<Row, EvalStop>
-    ensures { EvaluatesTo result (left_row sets.now default.now (id, row.now, option_copied other.entry)) }
+    ensures { EvaluatesTo result
+        (left_row sets.now default.now (id, row.now, option_copied other.entry)) }
 {
-    let matched = other.is_some();
-    let other = other.unwrap_or(default);
-    new_row(
-        alloc,
-        sets,
-        &JoinScope {
-            id,
-            row,
-            other,
-            matched,
-        },
-    )
+    let scope = JoinScope {
+        id,
+        row,
+        other: other.unwrap_or(default),
+        matched: other.is_some(),
+    };
+    new_row(alloc, sets, &scope)
 }

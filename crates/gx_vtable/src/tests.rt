@@ -1,5 +1,5 @@
-//! The three people of the examples and their hours, worked by hand. A shown table has a blank after
-//! each value and a slash after each row.
+//! The three people of the examples and their hours, worked by hand. A shown table has a blank
+//! after each value and a slash after each row.
 
 use crate::{table_filter, table_inner, table_left, table_map};
 use gx_expr::{BinaryOp, Expr, Side};
