@@ -16,7 +16,7 @@ use Rattle.gx_rows.specs.declared.value.Value.{Value}
 use Rattle.gx_rows.specs.declared.vid.Vid.{Vid}
 use Rattle.gx_expr.specs.Evaluates.{EvaluatesTo}
 use Rattle.gx_traverse.specs.Traversal.{AgreesWith, IsResultOf, traversal_of, with_key}
-use Rattle.gx_vpart.specs.Operators.{VertexRow, left_join, picked}
+use Rattle.gx_vpart.specs.Operators.{VertexRow, left_join, picked, vertex_key}
 use Rattle.gx_vtable.specs.Kernels.{Gives, KeepsRows, MakesRows, VertexFault, fault_if, faults_at, first_fault, rows_kept, rows_made, stop_of_fault}
 use Rattle.gx_vtable.specs.NewRows.{join_id, vertex_id}
 
@@ -32,21 +32,30 @@ Shows made rows fault (Ok ys) = (made ys ≡ rows) × (fault ≡ None)
 Shows made rows fault (Err e) = option_map stop_of_fault fault ≡ Some (part_stop.Fault e.0 e.1 e.2)
 
 -- a result that is made of what a traversal gives is what a kernel gives
-gives-shown : {B : Type 0} (made : List B → List VertexRow) (rows : List VertexRow) (fault : Option VertexFault) (meant : Result (List B) (RowKey × ℕ × Cause)) (result : Result (List VertexRow) PartStop)
+gives-shown : {B : Type 0} (made : List B → List VertexRow) (rows : List VertexRow) (fault : Option VertexFault)
+    (meant : Result (List B) (RowKey × ℕ × Cause)) (result : Result (List VertexRow) PartStop)
     → Shows made rows fault meant → IsResultOf (λ ys new. new ≡ made ys) result meant → Gives rows fault result
 gives-shown made rows fault meant (Ok new) shows is = let h = rw is.1 at shows in (is.2 ∙ h.0, h.1)
 gives-shown made rows fault meant (Err part_stop.NoMemory) shows is = tt
 gives-shown made rows fault meant (Err (part_stop.Fault key node cause)) shows is = rw is at shows
 
 module _ {A : Type 0} (id_of : A → Vid) (row_of : A → Result (List Value) (Cause × ℕ)) where
-  shows-rows : (xs : List A) → Shows (λ rows. zip (map id_of xs) rows) (rows_made id_of row_of xs) (first_fault id_of row_of xs) (traversal_of (λ x. row_key.Vertex (id_of x)) row_of xs)
+  abbrev key_of : A → RowKey
+  key_of x = row_key.Vertex (id_of x)
+
+  -- the rows of these items, from the values of a traversal
+  abbrev with_ids : List A → List (List Value) → List VertexRow
+  with_ids xs rows = zip (map id_of xs) rows
+
+  shows-rows : (xs : List A) → Shows (with_ids xs) (rows_made id_of row_of xs) (first_fault id_of row_of xs) (traversal_of key_of row_of xs)
   unfolding traversal_of
   shows-rows [] = (refl, refl)
-  shows-rows (x ∷ xs) = by (row_of x) (traversal_of (λ x. row_key.Vertex (id_of x)) row_of xs) (rows_made id_of row_of xs) (faults_at id_of row_of xs) (shows-rows xs)
+  shows-rows (x ∷ xs) = by (row_of x) (traversal_of key_of row_of xs) (rows_made id_of row_of xs) (faults_at id_of row_of xs) (shows-rows xs)
     where
       by : (r : Result (List Value) (Cause × ℕ)) (rest : Result (List (List Value)) (RowKey × ℕ × Cause)) (rows : List VertexRow) (faults : List VertexFault)
-          → Shows (λ ys. zip (map id_of xs) ys) rows (slice_get faults 0) rest
-          → Shows (λ ys. zip (id_of x ∷ map id_of xs) ys) (cons_option (option_map (λ row. (id_of x, row)) (result_ok r)) rows) (slice_get (cons_option (fault_if (id_of x) r) faults) 0) (try_cons (with_key (row_key.Vertex (id_of x)) r) rest)
+          → Shows (with_ids xs) rows (slice_get faults 0) rest
+          → Shows (with_ids (x ∷ xs)) (cons_option (option_map (λ row. (id_of x, row)) (result_ok r)) rows)
+          (slice_get (cons_option (fault_if (id_of x) r) faults) 0) (try_cons (with_key (key_of x) r) rest)
       by (Ok row) (Ok ys) rows faults h = (ap (λ more. (id_of x, row) ∷ more) h.0, h.1)
       by (Ok row) (Err e) rows faults h = h
       by (Err f) (Ok ys) rows faults h = refl
@@ -55,19 +64,18 @@ module _ {A : Type 0} (id_of : A → Vid) (row_of : A → Result (List Value) (C
   -- if no item has a fault, no identifier is left out
   ids-of_rows : (xs : List A) → first_fault id_of row_of xs ≡ None → keys_of (rows_made id_of row_of xs) ≡ map id_of xs
   ids-of_rows [] none = refl
-  ids-of_rows (x ∷ xs) none = by (row_of x) (faults_at id_of row_of xs) none (ids-of_rows xs)
+  ids-of_rows (x ∷ xs) none = by (row_of x) (faults_at id_of row_of xs) (rows_made id_of row_of xs) none (ids-of_rows xs)
     where
-      by : (r : Result (List Value) (Cause × ℕ)) (faults : List VertexFault) → slice_get (cons_option (fault_if (id_of x) r) faults) 0 ≡ None
-          → (slice_get faults 0 ≡ None → keys_of (rows_made id_of row_of xs) ≡ map id_of xs)
-          → keys_of (cons_option (option_map (λ row. (id_of x, row)) (result_ok r)) (rows_made id_of row_of xs)) ≡ id_of x ∷ map id_of xs
-      by (Ok row) faults none more = ap (λ ids. id_of x ∷ ids) (more none)
-      by (Err f) faults none more = absurd (none-some _ (sym none))
+      by : (r : Result (List Value) (Cause × ℕ)) (faults : List VertexFault) (rows : List VertexRow)
+          → slice_get (cons_option (fault_if (id_of x) r) faults) 0 ≡ None → (slice_get faults 0 ≡ None → keys_of rows ≡ map id_of xs)
+          → keys_of (cons_option (option_map (λ row. (id_of x, row)) (result_ok r)) rows) ≡ id_of x ∷ map id_of xs
+      by (Ok row) faults rows none more = ap (λ ids. id_of x ∷ ids) (more none)
+      by (Err f) faults rows none more = absurd (none-some _ (sym none))
 
   -- a kernel whose closure makes the new row of each item
   pub makes_rows : (xs : List A) (result : Result (List VertexRow) PartStop)
-      → IsResultOf (λ rows new. new ≡ zip (map id_of xs) rows) result (traversal_of (λ x. row_key.Vertex (id_of x)) row_of xs)
-      → MakesRows id_of row_of xs result
-  makes_rows xs result is = gives-shown (λ rows. zip (map id_of xs) rows) _ _ _ result (shows-rows xs) is
+      → IsResultOf (λ rows new. new ≡ with_ids xs rows) result (traversal_of key_of row_of xs) → MakesRows id_of row_of xs result
+  makes_rows xs result is = gives-shown (with_ids xs) _ _ _ result (shows-rows xs) is
 
   -- it keeps the identifiers
   pub keeps_ids : (xs : List A) (result : Result (List VertexRow) PartStop) → MakesRows id_of row_of xs result → IfOk result (λ new. keys_of new ≡ map id_of xs)
@@ -75,23 +83,25 @@ module _ {A : Type 0} (id_of : A → Vid) (row_of : A → Result (List Value) (C
   keeps_ids xs (Err stop) made = tt
 
 -- the test of each vertex
-shows-kept : (holds : VertexRow → Result Bool (Cause × ℕ)) (xs : List VertexRow) → Shows (picked xs) (rows_kept holds xs) (first_fault vertex_id holds xs) (traversal_of (λ x. row_key.Vertex x.0) holds xs)
+shows-kept : (holds : VertexRow → Result Bool (Cause × ℕ)) (xs : List VertexRow)
+    → Shows (picked xs) (rows_kept holds xs) (first_fault vertex_id holds xs) (traversal_of vertex_key holds xs)
 unfolding traversal_of
 shows-kept holds [] = (refl, refl)
-shows-kept holds (x ∷ xs) = by (holds x) (traversal_of (λ x. row_key.Vertex x.0) holds xs) (rows_kept holds xs) _ (shows-kept holds xs)
+shows-kept holds (x ∷ xs) = by (holds x) (traversal_of vertex_key holds xs) (rows_kept holds xs) (faults_at vertex_id holds xs) (shows-kept holds xs)
   where
     by : (r : Result Bool (Cause × ℕ)) (rest : Result (List Bool) (RowKey × ℕ × Cause)) (rows : List VertexRow) (faults : List VertexFault)
         → Shows (picked xs) rows (slice_get faults 0) rest
-        → Shows (picked (x ∷ xs)) (cond (result_unwrap_or r false) (x ∷ rows) rows) (slice_get (cons_option (fault_if x.0 r) faults) 0) (try_cons (with_key (row_key.Vertex x.0) r) rest)
+        → Shows (picked (x ∷ xs)) (cond (result_unwrap_or r false) (x ∷ rows) rows)
+        (slice_get (cons_option (fault_if x.0 r) faults) 0) (try_cons (with_key (vertex_key x) r) rest)
     by (Ok true) (Ok bools) rows faults h = (ap (λ more. x ∷ more) h.0, h.1)
     by (Ok false) (Ok bools) rows faults h = h
     by (Ok holds) (Err e) rows faults h = h
     by (Err f) (Ok bools) rows faults h = refl
     by (Err f) (Err e) rows faults h = refl
 
+-- a kernel whose closure tests each vertex
 pub keeps_rows : (holds : VertexRow → Result Bool (Cause × ℕ)) (xs : List VertexRow) (result : Result (List VertexRow) PartStop)
-    → IsResultOf (λ bools new. new ≡ picked xs bools) result (traversal_of (λ x. row_key.Vertex x.0) holds xs)
-    → KeepsRows holds xs result
+    → IsResultOf (λ bools new. new ≡ picked xs bools) result (traversal_of vertex_key holds xs) → KeepsRows holds xs result
 keeps_rows holds xs result is = gives-shown (picked xs) _ _ _ result (shows-kept holds xs) is
 
 -- a left join has the identifiers of its first list

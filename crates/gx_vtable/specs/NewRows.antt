@@ -1,6 +1,6 @@
 -- What an expression reads at a vertex of a table, and what comes of it there: a new row, or whether
 -- a test holds. A fault is a cause with the number of the expression node that has no value.
-use Rattle.std.specs.Prelude.{ℕ, Bool, true, false, List, [], Option, None, Some, is_some, Result, unwrap_or}
+use Rattle.std.specs.Prelude.{◌≡◌, ℕ, Bool, true, false, List, [], Option, None, Some, is_some, Result, unwrap_or, refl}
 use Rattle.gx_rows.specs.declared.cause.Cause.{Cause}
 use Rattle.gx_rows.specs.declared.value.Value.{Value}
 use Rattle.gx_rows.specs.declared.vid.Vid.{Vid}
@@ -72,3 +72,12 @@ inner_row sets x = joined_row sets (x.0, x.1) x.2 true
 -- the new row of a vertex with the row of the other table beside it, or else the default
 abbrev pub left_row : List Expr → List Value → Vid × List Value × Option (List Value) → Result (List Value) (Cause × ℕ)
 left_row sets default x = joined_row sets (x.0, x.1) (unwrap_or x.2 default) (is_some x.2)
+
+-- ---- example: `o` is the other row, and has no identifier
+
+values_in_join-sides : (v : VertexRow) (other : List Value)
+    → ((values_in_join v other true).columns side.Vertex ≡ v.1)
+    × ((values_in_join v other true).columns side.Other ≡ other)
+    × ((values_in_join v other true).id side.Vertex ≡ Some v.0)
+    × ((values_in_join v other true).id side.Other ≡ None)
+values_in_join-sides v other = (refl, refl, refl, refl)
