@@ -17,7 +17,7 @@ use Rattle.gx_rows.specs.declared.vid.Vid.{Vid}
 use Rattle.gx_expr.specs.Evaluates.{EvaluatesTo}
 use Rattle.gx_traverse.specs.Traversal.{AgreesWith, IsResultOf, traversal_of, with_key}
 use Rattle.gx_vpart.specs.Operators.{VertexRow, left_join, picked, vertex_key}
-use Rattle.gx_vtable.specs.Kernels.{Gives, KeepsRows, MakesRows, VertexFault, fault_if, faults_at, first_fault, rows_kept, rows_made, stop_of_fault}
+use Rattle.gx_vtable.specs.Kernels.{ReturnsRows, KeepsRows, MakesRows, VertexFault, fault_if, faults_at, earliest_fault, rows_kept, rows_made, stop_of_fault}
 use Rattle.gx_vtable.specs.NewRows.{join_id, vertex_id}
 
 -- an evaluation that gives what is defined agrees with the function that is defined
@@ -32,12 +32,12 @@ Shows made rows fault (Ok ys) = (made ys ≡ rows) × (fault ≡ None)
 Shows made rows fault (Err e) = option_map stop_of_fault fault ≡ Some (part_stop.Fault e.0 e.1 e.2)
 
 -- a result that is made of what a traversal gives is what a kernel gives
-gives-shown : {B : Type 0} (made : List B → List VertexRow) (rows : List VertexRow) (fault : Option VertexFault)
+returns-shown : {B : Type 0} (made : List B → List VertexRow) (rows : List VertexRow) (fault : Option VertexFault)
     (meant : Result (List B) (RowKey × ℕ × Cause)) (result : Result (List VertexRow) PartStop)
-    → Shows made rows fault meant → IsResultOf (λ ys new. new ≡ made ys) result meant → Gives rows fault result
-gives-shown made rows fault meant (Ok new) shows is = let h = rw is.1 at shows in (is.2 ∙ h.0, h.1)
-gives-shown made rows fault meant (Err part_stop.NoMemory) shows is = tt
-gives-shown made rows fault meant (Err (part_stop.Fault key node cause)) shows is = rw is at shows
+    → Shows made rows fault meant → IsResultOf (λ ys new. new ≡ made ys) result meant → ReturnsRows rows fault result
+returns-shown made rows fault meant (Ok new) shows is = let h = rw is.1 at shows in (is.2 ∙ h.0, h.1)
+returns-shown made rows fault meant (Err part_stop.NoMemory) shows is = tt
+returns-shown made rows fault meant (Err (part_stop.Fault key node cause)) shows is = rw is at shows
 
 module _ {A : Type 0} (id_of : A → Vid) (row_of : A → Result (List Value) (Cause × ℕ)) where
   abbrev key_of : A → RowKey
@@ -47,7 +47,7 @@ module _ {A : Type 0} (id_of : A → Vid) (row_of : A → Result (List Value) (C
   abbrev with_ids : List A → List (List Value) → List VertexRow
   with_ids xs rows = zip (map id_of xs) rows
 
-  shows-rows : (xs : List A) → Shows (with_ids xs) (rows_made id_of row_of xs) (first_fault id_of row_of xs) (traversal_of key_of row_of xs)
+  shows-rows : (xs : List A) → Shows (with_ids xs) (rows_made id_of row_of xs) (earliest_fault id_of row_of xs) (traversal_of key_of row_of xs)
   unfolding traversal_of
   shows-rows [] = (refl, refl)
   shows-rows (x ∷ xs) = by (row_of x) (traversal_of key_of row_of xs) (rows_made id_of row_of xs) (faults_at id_of row_of xs) (shows-rows xs)
@@ -62,7 +62,7 @@ module _ {A : Type 0} (id_of : A → Vid) (row_of : A → Result (List Value) (C
       by (Err f) (Err e) rows faults h = refl
 
   -- if no item has a fault, no identifier is left out
-  ids-of_rows : (xs : List A) → first_fault id_of row_of xs ≡ None → keys_of (rows_made id_of row_of xs) ≡ map id_of xs
+  ids-of_rows : (xs : List A) → earliest_fault id_of row_of xs ≡ None → keys_of (rows_made id_of row_of xs) ≡ map id_of xs
   ids-of_rows [] none = refl
   ids-of_rows (x ∷ xs) none = by (row_of x) (faults_at id_of row_of xs) (rows_made id_of row_of xs) none (ids-of_rows xs)
     where
@@ -75,7 +75,7 @@ module _ {A : Type 0} (id_of : A → Vid) (row_of : A → Result (List Value) (C
   -- a kernel whose closure makes the new row of each item
   pub makes_rows : (xs : List A) (result : Result (List VertexRow) PartStop)
       → IsResultOf (λ rows new. new ≡ with_ids xs rows) result (traversal_of key_of row_of xs) → MakesRows id_of row_of xs result
-  makes_rows xs result is = gives-shown (with_ids xs) _ _ _ result (shows-rows xs) is
+  makes_rows xs result is = returns-shown (with_ids xs) _ _ _ result (shows-rows xs) is
 
   -- it keeps the identifiers
   pub keeps_ids : (xs : List A) (result : Result (List VertexRow) PartStop) → MakesRows id_of row_of xs result → IfOk result (λ new. keys_of new ≡ map id_of xs)
@@ -84,7 +84,7 @@ module _ {A : Type 0} (id_of : A → Vid) (row_of : A → Result (List Value) (C
 
 -- the test of each vertex
 shows-kept : (holds : VertexRow → Result Bool (Cause × ℕ)) (xs : List VertexRow)
-    → Shows (picked xs) (rows_kept holds xs) (first_fault vertex_id holds xs) (traversal_of vertex_key holds xs)
+    → Shows (picked xs) (rows_kept holds xs) (earliest_fault vertex_id holds xs) (traversal_of vertex_key holds xs)
 unfolding traversal_of
 shows-kept holds [] = (refl, refl)
 shows-kept holds (x ∷ xs) = by (holds x) (traversal_of vertex_key holds xs) (rows_kept holds xs) (faults_at vertex_id holds xs) (shows-kept holds xs)
@@ -102,7 +102,7 @@ shows-kept holds (x ∷ xs) = by (holds x) (traversal_of vertex_key holds xs) (r
 -- a kernel whose closure tests each vertex
 pub keeps_rows : (holds : VertexRow → Result Bool (Cause × ℕ)) (xs : List VertexRow) (result : Result (List VertexRow) PartStop)
     → IsResultOf (λ bools new. new ≡ picked xs bools) result (traversal_of vertex_key holds xs) → KeepsRows holds xs result
-keeps_rows holds xs result is = gives-shown (picked xs) _ _ _ result (shows-kept holds xs) is
+keeps_rows holds xs result is = returns-shown (picked xs) _ _ _ result (shows-kept holds xs) is
 
 -- a left join has the identifiers of its first list
 pub ids-left_join : {R S : Type 0} (xs : List (Vid × R)) (ys : List (Vid × S)) → map join_id (left_join xs ys) ≡ keys_of xs

@@ -35,26 +35,26 @@ abbrev pub faults_at : {A B : Type 0} → (A → Vid) → (A → Result B (Cause
 faults_at id_of result_of items = filter_map (λ x. fault_if (id_of x) (result_of x)) items
 
 -- the fault at the first item that has one
-abbrev pub first_fault : {A B : Type 0} → (A → Vid) → (A → Result B (Cause × ℕ)) → List A → Option VertexFault
-first_fault id_of result_of items = slice_get (faults_at id_of result_of items) 0
+abbrev pub earliest_fault : {A B : Type 0} → (A → Vid) → (A → Result B (Cause × ℕ)) → List A → Option VertexFault
+earliest_fault id_of result_of items = slice_get (faults_at id_of result_of items) 0
 
 -- the refusal of a kernel with this fault
 abbrev pub stop_of_fault : VertexFault → PartStop
 stop_of_fault f = part_stop.Fault (row_key.Vertex f.0) f.1.1 f.1.0
 
 -- the rows, if there is no fault, or else the fault; memory may run out instead
-abbrev pub Gives : List VertexRow → Option VertexFault → Result (List VertexRow) PartStop → Type 0
-Gives rows fault (Ok new) = (new ≡ rows) × (fault ≡ None)
-Gives rows fault (Err part_stop.NoMemory) = ⊤
-Gives rows fault (Err (part_stop.Fault key node cause)) = option_map stop_of_fault fault ≡ Some (part_stop.Fault key node cause)
+abbrev pub ReturnsRows : List VertexRow → Option VertexFault → Result (List VertexRow) PartStop → Type 0
+ReturnsRows rows fault (Ok new) = (new ≡ rows) × (fault ≡ None)
+ReturnsRows rows fault (Err part_stop.NoMemory) = ⊤
+ReturnsRows rows fault (Err (part_stop.Fault key node cause)) = option_map stop_of_fault fault ≡ Some (part_stop.Fault key node cause)
 
 -- a kernel makes a row of each item
 abbrev pub MakesRows : {A : Type 0} → (A → Vid) → (A → Result (List Value) (Cause × ℕ)) → List A → Result (List VertexRow) PartStop → Type 0
-MakesRows id_of row_of items = Gives (rows_made id_of row_of items) (first_fault id_of row_of items)
+MakesRows id_of row_of items = ReturnsRows (rows_made id_of row_of items) (earliest_fault id_of row_of items)
 
 -- a kernel keeps the vertices of which a test holds
 abbrev pub KeepsRows : (VertexRow → Result Bool (Cause × ℕ)) → List VertexRow → Result (List VertexRow) PartStop → Type 0
-KeepsRows holds vertices = Gives (rows_kept holds vertices) (first_fault vertex_id holds vertices)
+KeepsRows holds vertices = ReturnsRows (rows_kept holds vertices) (earliest_fault vertex_id holds vertices)
 
 -- ---- examples: rows without a column have no value
 
@@ -75,6 +75,6 @@ rows_made-example : rows_made vertex_id first_column ((example_id 1, example_row
     ≡ (example_id 1, value.Int (pos 25) ∷ []) ∷ (example_id 2, value.Int (pos 25) ∷ []) ∷ []
 rows_made-example = refl
 
-first_fault-example : first_fault vertex_id first_column ((example_id 1, example_row) ∷ (example_id 2, []) ∷ (example_id 3, []) ∷ [])
+earliest_fault-example : earliest_fault vertex_id first_column ((example_id 1, example_row) ∷ (example_id 2, []) ∷ (example_id 3, []) ∷ [])
     ≡ Some (example_id 2, (cause.DivideByZero, 7))
-first_fault-example = refl
+earliest_fault-example = refl
