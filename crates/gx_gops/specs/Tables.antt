@@ -1,0 +1,42 @@
+-- Tables of rows, and the rows that ends of edges become.
+use Rattle.std.specs.Prelude.{◌≡◌, ℕ, pos, ◌%◌, ◌==◌, ◌&&◌, Bool, List, [], ◌∷◌, map, filter, flat_map, is_none, refl}
+use Rattle.std.specs.Map.{keys_of}
+use Rattle.gx_rows.specs.Order.{Edge}
+use Rattle.gx_rows.specs.declared.value.Value.{Value}
+use Rattle.gx_rows.specs.declared.vid.Vid.{Vid}
+use Rattle.gx_cuts.specs.Mixing.{mix_of}
+use Rattle.gx_index.specs.Ids.{IsAscending}
+use Rattle.gx_vpart.specs.Operators.{VertexRow, row_at}
+
+-- the table of rows: each identifier that occurs in them, ascending, with its first row
+pub record IsTableOf (rows table : List VertexRow) : Type 0 where
+  pub ascending : IsAscending (keys_of table)
+  pub first_rows : (id : Vid) → row_at id table ≡ row_at id rows
+
+-- whether a vertex is in the partition, which is one of `parts`
+abbrev pub is_in_part : ℕ → ℕ → Vid → Bool
+is_in_part part parts id = mix_of id.0 % parts == part
+
+-- the sources and destinations of edges
+abbrev pub both_ends : List Edge → List Vid
+both_ends edges = flat_map (λ e. e.0 ∷ e.1 ∷ []) edges
+
+-- those of them that are in the partition
+abbrev pub ends_in_part : ℕ → ℕ → List Edge → List Vid
+ends_in_part part parts edges = filter (is_in_part part parts) (both_ends edges)
+
+-- whether a vertex is in the partition and has no row
+abbrev pub is_missing : List VertexRow → ℕ → ℕ → Vid → Bool
+is_missing rows part parts id = is_in_part part parts id && is_none (row_at id rows)
+
+-- each of the identifiers with the same row
+abbrev pub with_row : List Value → List Vid → List VertexRow
+with_row row ids = map (λ id. (id, row)) ids
+
+-- ---- examples
+
+-- of two partitions the ends 1 and 3 are in the first, and 2 is in the second
+ends_in_part-example : ends_in_part 0 2 ((record { 0 = pos 1 }, record { 0 = pos 2 }, []) ∷ (record { 0 = pos 3 }, record { 0 = pos 1 }, []) ∷ [])
+    ≡ record { 0 = pos 1 } ∷ record { 0 = pos 3 } ∷ record { 0 = pos 1 } ∷ []
+unfolding mix_of
+ends_in_part-example = refl

@@ -1,0 +1,153 @@
+//! The vertices that a partition lacks.
+
+ghost use Rattle.std.specs.Prelude.{◌≡◌, ◌<◌, ◌∷◌, ◌++◌, IfOk, IsPermutation, OnOk, [], filter, unwrap_or};
+ghost use Rattle.std.specs.Map.{keys_of};
+ghost use Rattle.std.specs.Option.{option_copied};
+ghost use Rattle.gx_index.specs.Ends.{IsSetOf};
+ghost use Rattle.gx_index.specs.Ids.{HasDistinctIds, IsAscending};
+ghost use Rattle.gx_gops.specs.AllEdges.{edges_of_parts};
+ghost use Rattle.gx_gops.specs.Tables.{IsTableOf, both_ends, ends_in_part, is_missing, with_row};
+
+use crate::all_edges::AllEdges;
+use crate::lists::append;
+use gx_cuts::vertex_part;
+use gx_epart::EPart;
+use gx_index::IdSet;
+use gx_rows::{NoMemory, Row, Vid};
+use gx_vpart::{VPart, VRows};
+use std::alloc::Global;
+use std::rc::Rc;
+
+/// The rows of vertex partition `part` of `parts`, and the default row for each end of the edges
+/// that is in this partition and has no row. If no row is missing, the rows are shared as a whole,
+/// and otherwise the texts and lists in them.
+///
+/// # Errors
+///
+/// `NoMemory` if memory for the rows runs out, or if there are 2^32 of them or more.
+pub fn add_missing(
+    alloc: Global,
+    rows: Option<&VPart>,
+    edges: &[Rc<EPart>],
+    default: &Row,
+    part: u32,
+    parts: u32,
+) -> Result<VPart, NoMemory>
+    requires { part < parts }
+    ensures { IfOk result (IsTableOf (unwrap_or (option_copied rows.entry) []
+        ++ with_row default.now (ends_in_part part parts (edges_of_parts edges.now)))) }
+{
+    match rows {
+        Some(rows) => with_missing(alloc, rows, edges, default, part, parts),
+        None => with_missing(alloc, &no_rows(alloc)?, edges, default, part, parts),
+    }
+}
+
+fn with_missing(
+    alloc: Global,
+    rows: &VPart,
+    edges: &[Rc<EPart>],
+    default: &Row,
+    part: u32,
+    parts: u32,
+) -> Result<VPart, NoMemory>
+    requires { part < parts }
+    ensures { IfOk result (IsTableOf (rows.now
+        ++ with_row default.now (ends_in_part part parts (edges_of_parts edges.now)))) }
+{
+    let missing = missing_ends(alloc, rows, edges, part, parts)?;
+    let present = rows.rows();
+    if missing.ids().is_empty() {
+        return shared(alloc, rows);
+    }
+    let mut all = copies(alloc, present)?;
+    append_ids(&mut all, missing.ids(), default)?;
+    table_of_runs(alloc, all)
+}
+
+fn no_rows(alloc: Global) -> Result<VPart, NoMemory>
+    ensures { IfOk result (λ part. part ≡ []) }
+{
+    VPart::of(alloc, Vec::new(alloc))
+}
+
+// The ends of edges that are in the partition and have no row.
+fn missing_ends(
+    alloc: Global,
+    rows: &VPart,
+    edges: &[Rc<EPart>],
+    part: u32,
+    parts: u32,
+) -> Result<IdSet, NoMemory>
+    requires { part < parts }
+    ensures { IfOk result (IsSetOf
+        (filter (is_missing rows.now part parts) (both_ends (edges_of_parts edges.now)))) }
+{
+    let mut ids = Vec::new(alloc);
+    'edges: for (src, dst, _row) in AllEdges::of(edges) {
+        append_if_missing(&mut ids, rows, src, part, parts)?;
+        append_if_missing(&mut ids, rows, dst, part, parts)?;
+    }
+    IdSet::of(alloc, ids.as_slice())
+}
+
+fn append_if_missing(
+    ids: &mut Vec<Vid>,
+    rows: &VPart,
+    id: Vid,
+    part: u32,
+    parts: u32,
+) -> Result<(), NoMemory>
+    requires { part < parts }
+    ensures { OnOk result (ids.new.items
+        ≡ ids.old.items ++ filter (is_missing rows.now part parts) (id ∷ [])) }
+{
+    if vertex_part(parts, id.0) == part && rows.row(id).is_none() {
+        append(ids, id)?;
+    }
+    Ok(())
+}
+
+// The same rows. With none taken away, they are shared as a whole.
+fn shared(alloc: Global, rows: &VPart) -> Result<VPart, NoMemory>
+    ensures { IfOk result (λ same. same ≡ rows.now) }
+{
+    rows.minus(&no_rows(alloc)?)
+}
+
+// A copy of each row.
+fn copies(alloc: Global, rows: VRows<'_>) -> Result<Vec<(Vid, Row)>, NoMemory>
+    ensures { IfOk result (λ copies. copies.items ≡ rows.entry) }
+{
+    let mut copies = Vec::new(alloc);
+    'rows: for (id, row) in rows {
+        append(&mut copies, (id, row.copy()?))?;
+    }
+    Ok(copies)
+}
+
+// Each of these identifiers with this row, after the other rows.
+fn append_ids(rows: &mut Vec<(Vid, Row)>, ids: &[Vid], row: &Row) -> Result<(), NoMemory>
+    ensures { OnOk result (rows.new.items ≡ rows.old.items ++ with_row row.now ids.now) }
+{
+    let mut rest = ids;
+    while let [id, after @ ..] = rest {
+        append(rows, (*id, row.copy()?))?;
+        rest = after;
+    }
+    Ok(())
+}
+
+// The partition of these rows, of which the first ones and the last ones ascend. A stable sort
+// merges them in one pass.
+fn table_of_runs(alloc: Global, mut rows: Vec<(Vid, Row)>) -> Result<VPart, NoMemory>
+    requires { HasDistinctIds (keys_of rows.items) }
+    ensures ascending { IfOk result (λ part. IsAscending (keys_of part)) }
+    ensures same { IfOk result (λ part. IsPermutation rows.items part) }
+{
+    if rows.len() > u32::MAX as usize {
+        return Err(NoMemory);
+    }
+    rows.sort_by_key(|row| row.0)?;
+    VPart::of(alloc, rows)
+}
