@@ -1,10 +1,8 @@
 -- The edges that a cut places in a partition.
-use Rattle.std.specs.Prelude.{◌≡◌, ℕ, pos, ◌==◌, Bool, List, [], ◌∷◌, filter, refl}
+use Rattle.std.specs.Prelude.{ℕ, ◌==◌, Bool, List, filter}
 use Rattle.gx_rows.specs.Order.{Edge}
 use Rattle.gx_rows.specs.declared.vid.Vid.{Vid}
 use Rattle.gx_cuts.specs.declared.cut.Cut.{Cut}
-use Rattle.gx_cuts.specs.declared.cut.Cut.TheVariants.{OneD}
-use Rattle.gx_cuts.specs.Mixing.{mix_of}
 use Rattle.gx_cuts.specs.Places.{place_of}
 
 -- whether the cut places an edge from src to dst in the partition, which is one of `parts`

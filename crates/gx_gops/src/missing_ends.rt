@@ -43,6 +43,7 @@ pub fn add_missing(
     }
 }
 
+// The rows, and the default row for each missing end.
 fn with_missing(
     alloc: Global,
     rows: &VPart,
@@ -56,12 +57,11 @@ fn with_missing(
         ++ with_row default.now (ends_in_part part parts (edges_of_parts edges.now)))) }
 {
     let missing = missing_ends(alloc, rows, edges, part, parts)?;
-    let present = rows.rows();
+    let _ascending = rows.rows();
     if missing.ids().is_empty() {
         return shared(alloc, rows);
     }
-    let mut all = copies(alloc, present)?;
-    append_ids(&mut all, missing.ids(), default)?;
+    let all = rows_and_ids(alloc, rows, missing.ids(), default)?;
     table_of_runs(alloc, all)
 }
 
@@ -115,24 +115,38 @@ fn shared(alloc: Global, rows: &VPart) -> Result<VPart, NoMemory>
     rows.minus(&no_rows(alloc)?)
 }
 
-// A copy of each row.
-fn copies(alloc: Global, rows: VRows<'_>) -> Result<Vec<(Vid, Row)>, NoMemory>
-    ensures { IfOk result (λ copies. copies.items ≡ rows.entry) }
+// A copy of each row, and then of the default row for each of these identifiers.
+fn rows_and_ids(
+    alloc: Global,
+    rows: &VPart,
+    ids: &[Vid],
+    default: &Row,
+) -> Result<Vec<(Vid, Row)>, NoMemory>
+    ensures { IfOk result (λ all. all.items ≡ rows.now ++ with_row default.now ids.now) }
 {
-    let mut copies = Vec::new(alloc);
-    'rows: for (id, row) in rows {
-        append(&mut copies, (id, row.copy()?))?;
-    }
-    Ok(copies)
+    let mut all = Vec::with_capacity(alloc, rows.rows().count() + ids.len())?;
+    append_rows(&mut all, rows.rows())?;
+    append_ids(&mut all, ids, default)?;
+    Ok(all)
 }
 
-// Each of these identifiers with this row, after the other rows.
-fn append_ids(rows: &mut Vec<(Vid, Row)>, ids: &[Vid], row: &Row) -> Result<(), NoMemory>
-    ensures { OnOk result (rows.new.items ≡ rows.old.items ++ with_row row.now ids.now) }
+// A copy of each of these rows, after the other rows.
+fn append_rows(all: &mut Vec<(Vid, Row)>, rows: VRows<'_>) -> Result<(), NoMemory>
+    ensures { OnOk result (all.new.items ≡ all.old.items ++ rows.entry) }
+{
+    'rows: for (id, row) in rows {
+        append(all, (id, row.copy()?))?;
+    }
+    Ok(())
+}
+
+// A copy of this row for each of these identifiers, after the other rows.
+fn append_ids(all: &mut Vec<(Vid, Row)>, ids: &[Vid], row: &Row) -> Result<(), NoMemory>
+    ensures { OnOk result (all.new.items ≡ all.old.items ++ with_row row.now ids.now) }
 {
     let mut rest = ids;
     while let [id, after @ ..] = rest {
-        append(rows, (*id, row.copy()?))?;
+        append(all, (*id, row.copy()?))?;
         rest = after;
     }
     Ok(())

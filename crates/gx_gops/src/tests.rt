@@ -34,11 +34,7 @@ fn two_rows(alloc: Global) -> Result<VPart, NoMemory> {
 }
 
 // Each edge is a source, a destination and the one number of its row.
-fn edges_of(
-    rt: &impl Abort,
-    alloc: Global,
-    edges: &[(i64, i64, i64)],
-) -> Result<Rc<EPart>, Fail> {
+fn edges_of(rt: &impl Abort, alloc: Global, edges: &[(i64, i64, i64)]) -> Result<Rc<EPart>, Fail> {
     let mut list = Vec::new(alloc);
     for (src, dst, number) in edges {
         list.push((Vid(*src), Vid(*dst), row_of(*number)))?;

@@ -1,4 +1,4 @@
-use Rattle.std.proofs.Common.{◌≡◌, [], ◌∙◌}
+use Rattle.std.proofs.Common.{◌≡◌, ◌∙◌}
 use Rattle.gx_vpart.specs.Operators.{minus}
 use Rattle.gx_gops.proofs.Rows.{minus-none}
 use Rattle.std.proofs.lemmas.Result.{IfOk-weaker}

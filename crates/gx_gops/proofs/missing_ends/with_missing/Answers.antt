@@ -1,4 +1,4 @@
-use Rattle.std.proofs.Common.{◌≡◌, ◌++◌, IsPermutation, sym, ◌∙◌, subst}
+use Rattle.std.proofs.Common.{◌≡◌, ◌++◌, IsPermutation, ap, sym, ◌∙◌, subst}
 use Rattle.std.specs.Map.{keys_of}
 use Rattle.std.proofs.lemmas.Result.{IfOk-weaker}
 use Rattle.gx_index.specs.Ids.{HasDistinctIds, IsAscending}
@@ -14,7 +14,7 @@ returns-then-is_empty c =
     let ends = ends_in_part c.args.part c.args.parts edges in
     let none = sym c.ids.ensures.exact ∙ empty_from_length _ (sym c.is_empty.ensures ∙ c.if-is_empty.true) in
     let complete : IsTableOf (rows ++ with_row c.args.default.now ends) rows =
-    IsTableOf-complete rows c.args.part c.args.parts edges c.in_ok-missing.missing c.in_ok-missing.ensures c.args.default.now none c.rows-present.ensures.ascending in
+    IsTableOf-complete rows c.args.part c.args.parts edges c.in_ok-missing.missing c.in_ok-missing.ensures c.args.default.now none c.rows-ascending.ensures.ascending in
     IfOk-weaker c.shared.result (λ same. same ≡ rows) (IsTableOf (rows ++ with_row c.args.default.now ends)) (λ same e. subst (IsTableOf (rows ++ with_row c.args.default.now ends)) (sym e) complete) c.shared.ensures
 
 pub table_of_runs-requires : goal.table_of_runs-requires
@@ -23,8 +23,8 @@ table_of_runs-requires c =
     let row = c.args.default.now in
     let edges = edges_of_parts c.args.edges.now in
     let missing = c.in_ok-missing.missing in
-    let all : c.append_ids.new.rows.items ≡ rows ++ with_row row missing = cc (c.in_ok-append_ids.ensures, c.in_ok-all.ensures, c.ids-2.ensures.exact, c.rows-present.ensures.exact) in
-    subst (λ rs. HasDistinctIds (keys_of rs)) (sym all) (HasDistinctIds-with_missing rows c.args.part c.args.parts edges missing c.in_ok-missing.ensures row c.rows-present.ensures.ascending)
+    let all : c.in_ok-all.all.items ≡ rows ++ with_row row missing = c.in_ok-all.ensures ∙ ap (λ ids. rows ++ with_row row ids) c.ids-2.ensures.exact in
+    subst (λ rs. HasDistinctIds (keys_of rs)) (sym all) (HasDistinctIds-with_missing rows c.args.part c.args.parts edges missing c.in_ok-missing.ensures row c.rows-ascending.ensures.ascending)
 
 pub returns : goal.returns
 returns c =
@@ -32,7 +32,7 @@ returns c =
     let row = c.args.default.now in
     let edges = edges_of_parts c.args.edges.now in
     let missing = c.in_ok-missing.missing in
-    let all : c.append_ids.new.rows.items ≡ rows ++ with_row row missing = cc (c.in_ok-append_ids.ensures, c.in_ok-all.ensures, c.ids-2.ensures.exact, c.rows-present.ensures.exact) in
-    if_ok_both (λ part. IsAscending (keys_of part)) (λ part. IsPermutation c.append_ids.new.rows.items part) (IsTableOf (rows ++ with_row row (ends_in_part c.args.part c.args.parts edges))) c.table_of_runs.result
+    let all : c.in_ok-all.all.items ≡ rows ++ with_row row missing = c.in_ok-all.ensures ∙ ap (λ ids. rows ++ with_row row ids) c.ids-2.ensures.exact in
+    if_ok_both (λ part. IsAscending (keys_of part)) (λ part. IsPermutation c.in_ok-all.all.items part) (IsTableOf (rows ++ with_row row (ends_in_part c.args.part c.args.parts edges))) c.table_of_runs.result
     (λ part ascending same. IsTableOf-with_missing rows c.args.part c.args.parts edges missing c.in_ok-missing.ensures row part ascending (subst (λ rs. IsPermutation rs part) all same))
     c.table_of_runs.ensures.ascending c.table_of_runs.ensures.same
