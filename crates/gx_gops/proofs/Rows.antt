@@ -17,7 +17,8 @@ use Rattle.gx_rows.specs.declared.vid.Vid.{Vid}
 use Rattle.gx_index.specs.Ends.{IsSetOf}
 use Rattle.gx_index.specs.Ids.{HasDistinctIds, HasDistinctIds-from_ascending, IsAscending, has_id, id_cmp, id_cmp-exact, id_cmp-total, is_same_id}
 use Rattle.gx_vpart.specs.Operators.{VertexRow, minus, row_at}
-use Rattle.gx_gops.specs.Tables.{IsTableOf, both_ends, ends_in_part, is_in_part, is_missing, with_row}
+use Rattle.gx_gops.specs.TableLaws.{table_of-unique}
+use Rattle.gx_gops.specs.Tables.{both_ends, ends_in_part, is_in_part, is_missing, table_of, with_row}
 
 same_is_equal : (v w : Vid) → is_same_id v w ≡ true → v ≡ w
 same_is_equal v w same = id_cmp-exact v w ((Equal-is (id_cmp v w)).0 same)
@@ -180,19 +181,21 @@ module _ (rows : List VertexRow) (part parts : ℕ) (edges : List Edge) (missing
       HasDistinctIds-added rows row missing (HasDistinctIds-from_ascending (keys_of rows) ascending) (HasDistinctIds-from_ascending missing are.ascending) apart
 
   -- the rows and the missing ends in ascending order are the table of the rows and of all ends
-  pub IsTableOf-with_missing : (row : List Value) (table : List VertexRow) → IsAscending (keys_of table) → IsPermutation (rows ++ with_row row missing) table
-      → IsTableOf (rows ++ with_row row (ends_in_part part parts edges)) table
-  IsTableOf-with_missing row table ascending same = record {
-    ascending = ascending;
-    first_rows = λ q.
-        row_at-IsPermutation q (rows ++ with_row row missing) table same (HasDistinctIds-from_ascending (keys_of table) ascending)
-        ∙ row_at-added rows row missing (ends_in_part part parts edges) q (all_missing q);
-  }
+  pub table_of-with_missing : (row : List Value) (table : List VertexRow) → IsAscending (keys_of table) → IsPermutation (rows ++ with_row row missing) table
+      → table ≡ table_of (rows ++ with_row row (ends_in_part part parts edges))
+  table_of-with_missing row table ascending same =
+      table_of-unique (rows ++ with_row row (ends_in_part part parts edges)) table
+      (record {
+        ascending = ascending;
+        first_rows = λ q.
+            row_at-IsPermutation q (rows ++ with_row row missing) table same (HasDistinctIds-from_ascending (keys_of table) ascending)
+            ∙ row_at-added rows row missing (ends_in_part part parts edges) q (all_missing q);
+      })
 
   -- with no missing end, the rows are the table
-  pub IsTableOf-complete : (row : List Value) → missing ≡ [] → IsAscending (keys_of rows) → IsTableOf (rows ++ with_row row (ends_in_part part parts edges)) rows
-  IsTableOf-complete row none ascending =
-      IsTableOf-with_missing row rows ascending
+  pub table_of-complete : (row : List Value) → missing ≡ [] → IsAscending (keys_of rows) → rows ≡ table_of (rows ++ with_row row (ends_in_part part parts edges))
+  table_of-complete row none ascending =
+      table_of-with_missing row rows ascending
       (subst (λ ids. IsPermutation (rows ++ with_row row ids) rows) (sym none) (subst (λ rs. IsPermutation rs rows) (sym (append-nil rows)) (IsPermutation-refl rows)))
 
 -- ---- no rows

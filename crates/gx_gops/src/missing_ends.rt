@@ -6,7 +6,7 @@ ghost use Rattle.std.specs.Option.{option_copied};
 ghost use Rattle.gx_index.specs.Ends.{IsSetOf};
 ghost use Rattle.gx_index.specs.Ids.{HasDistinctIds, IsAscending};
 ghost use Rattle.gx_gops.specs.AllEdges.{edges_of_parts};
-ghost use Rattle.gx_gops.specs.Tables.{IsTableOf, both_ends, ends_in_part, is_missing, with_row};
+ghost use Rattle.gx_gops.specs.Tables.{both_ends, ends_in_part, is_missing, table_of, with_row};
 
 use crate::all_edges::AllEdges;
 use crate::lists::append;
@@ -34,7 +34,7 @@ pub fn add_missing(
     parts: u32,
 ) -> Result<VPart, NoMemory>
     requires { part < parts }
-    ensures { IfOk result (IsTableOf (unwrap_or (option_copied rows.entry) []
+    ensures { IfOk result (λ table. table ≡ table_of (unwrap_or (option_copied rows.entry) []
         ++ with_row default.now (ends_in_part part parts (edges_of_parts edges.now)))) }
 {
     match rows {
@@ -53,10 +53,11 @@ fn with_missing(
     parts: u32,
 ) -> Result<VPart, NoMemory>
     requires { part < parts }
-    ensures { IfOk result (IsTableOf (rows.now
+    ensures { IfOk result (λ table. table ≡ table_of (rows.now
         ++ with_row default.now (ends_in_part part parts (edges_of_parts edges.now)))) }
 {
     let missing = missing_ends(alloc, rows, edges, part, parts)?;
+    // The call takes no time; its clause says that the rows ascend.
     let _ascending = rows.rows();
     if missing.ids().is_empty() {
         return shared(alloc, rows);

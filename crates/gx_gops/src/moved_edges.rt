@@ -4,7 +4,7 @@ ghost use Rattle.std.specs.Prelude.{◌≡◌, ◌≢◌, ◌<◌, IfOk};
 ghost use Rattle.gx_cuts.specs.declared.cut.Cut.TheVariants as cut_of;
 ghost use Rattle.gx_epart.specs.Edges.{IsEdgeOrderOf};
 ghost use Rattle.gx_gops.specs.AllEdges.{edges_of_parts};
-ghost use Rattle.gx_gops.specs.Moving.{edges_placed_in, is_placed_in};
+ghost use Rattle.gx_gops.specs.Moving.{edges_placed_in, is_placed_in as is_placed};
 
 use crate::all_edges::AllEdges;
 use crate::lists::append;
@@ -14,8 +14,8 @@ use gx_rows::{NoMemory, Row, Vid};
 use std::alloc::Global;
 use std::rc::Rc;
 
-/// The edges of these partitions that the cut places in partition `part` of `parts`. Each of their
-/// rows is copied once.
+/// The edges of these partitions that the cut places in partition `part` of `parts`, whatever their
+/// positions in a file. Each of their rows is copied once.
 ///
 /// # Errors
 ///
@@ -53,17 +53,17 @@ fn copies_placed_in(
 {
     let mut placed = Vec::new(alloc);
     'edges: for (src, dst, row) in AllEdges::of(edges) {
-        if goes_to(part, parts, cut, src, dst) {
+        if is_placed_in(cut, part, parts, src, dst) {
             append(&mut placed, (src, dst, row.copy()?))?;
         }
     }
     Ok(placed)
 }
 
-// Whether the cut places an edge in the partition. No cut but `Rows` looks at the ordinal.
-fn goes_to(part: u32, parts: u32, cut: Cut, src: Vid, dst: Vid) -> bool
+// Whether the cut places an edge in the partition. Only `Rows` looks at the ordinal, here 0.
+fn is_placed_in(cut: Cut, part: u32, parts: u32, src: Vid, dst: Vid) -> bool
     requires { part < parts }
-    ensures { result ≡ is_placed_in cut part parts src dst }
+    ensures { result ≡ is_placed cut part parts src dst }
 {
     place(cut, parts, src.0, dst.0, 0) == part
 }
