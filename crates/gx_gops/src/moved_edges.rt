@@ -32,10 +32,13 @@ pub fn move_edges(
     ensures { IfOk result
         (IsEdgeOrderOf (edges_placed_in cut part parts (edges_of_parts edges.now))) }
 {
-    let moved = copies_placed_in(alloc, edges, cut, part, parts)?;
+    let mut moved = copies_placed_in(alloc, edges, cut, part, parts)?;
     if moved.len() > u32::MAX as usize {
         return Err(NoMemory);
     }
+    // The edges of each partition are in order, and a stable sort merges them. So the sort in
+    // `from_edges` is one pass.
+    moved.sort()?;
     EPart::from_edges(alloc, moved)
 }
 
