@@ -18,7 +18,7 @@ use Rattle.gx_index.specs.Ends.{IsSetOf}
 use Rattle.gx_index.specs.Ids.{HasDistinctIds, HasDistinctIds-from_ascending, IsAscending, has_id, id_cmp, id_cmp-exact, id_cmp-total, is_same_id}
 use Rattle.gx_vpart.specs.Operators.{VertexRow, minus, row_at}
 use Rattle.gx_gops.specs.TableLaws.{table_of-unique}
-use Rattle.gx_gops.specs.Tables.{both_ends, ends_in_part, is_in_part, is_missing, table_of, with_row}
+use Rattle.gx_gops.specs.Tables.{both_ends, default_rows, ends_in_part, is_in_part, is_missing, table_of}
 
 same_is_equal : (v w : Vid) → is_same_id v w ≡ true → v ≡ w
 same_is_equal v w same = id_cmp-exact v w ((Equal-is (id_cmp v w)).0 same)
@@ -55,10 +55,10 @@ row_if : (t u : Bool) (row : List Value) → cond t (Some row) (cond u (Some row
 row_if true u row = refl
 row_if false u row = refl
 
-row_at-with_row : (row : List Value) (ids : List Vid) (q : Vid) → row_at q (with_row row ids) ≡ cond (has_id q ids) (Some row) None
-row_at-with_row row [] q = refl
-row_at-with_row row (id ∷ ids) q =
-    ap (λ u. cond (is_same_id q id) (Some row) u) (row_at-with_row row ids q) ∙ row_if (is_same_id q id) (has_id q ids) row
+row_at-default_rows : (row : List Value) (ids : List Vid) (q : Vid) → row_at q (default_rows row ids) ≡ cond (has_id q ids) (Some row) None
+row_at-default_rows row [] q = refl
+row_at-default_rows row (id ∷ ids) q =
+    ap (λ u. cond (is_same_id q id) (Some row) u) (row_at-default_rows row ids q) ∙ row_if (is_same_id q id) (has_id q ids) row
 
 first_or-same : (u v w : Option (List Value)) → (is_none u ≡ true → v ≡ w) → first_or u v ≡ first_or u w
 first_or-same (Some row) v w same = refl
@@ -66,12 +66,12 @@ first_or-same None v w same = same refl
 
 -- of the identifiers that get one row, only those count that have no row of their own
 pub row_at-added : (rows : List VertexRow) (row : List Value) (some all : List Vid) (q : Vid) → (is_none (row_at q rows) ≡ true → has_id q some ≡ has_id q all)
-    → row_at q (rows ++ with_row row some) ≡ row_at q (rows ++ with_row row all)
+    → row_at q (rows ++ default_rows row some) ≡ row_at q (rows ++ default_rows row all)
 row_at-added rows row some all q same =
-    row_at-append rows (with_row row some) q
-    ∙ first_or-same (row_at q rows) (row_at q (with_row row some)) (row_at q (with_row row all))
-    (λ none. row_at-with_row row some q ∙ ap (λ b. cond b (Some row) None) (same none) ∙ sym (row_at-with_row row all q))
-    ∙ sym (row_at-append rows (with_row row all) q)
+    row_at-append rows (default_rows row some) q
+    ∙ first_or-same (row_at q rows) (row_at q (default_rows row some)) (row_at q (default_rows row all))
+    (λ none. row_at-default_rows row some q ∙ ap (λ b. cond b (Some row) None) (same none) ∙ sym (row_at-default_rows row all q))
+    ∙ sym (row_at-append rows (default_rows row all) q)
 
 -- ---- filtered identifiers
 
@@ -130,7 +130,7 @@ HasDistinctIds-append (x ∷ xs) ys first second apart =
       HasDistinctIds-append xs ys first.1 second (λ q there. apart q (ap (λ b. is_same_id q x || b) there ∙ or-true (is_same_id q x))),
     )
 
-keys-added : (rows : List VertexRow) (row : List Value) (ids : List Vid) → keys_of (rows ++ with_row row ids) ≡ keys_of rows ++ ids
+keys-added : (rows : List VertexRow) (row : List Value) (ids : List Vid) → keys_of (rows ++ default_rows row ids) ≡ keys_of rows ++ ids
 keys-added [] row [] = refl
 keys-added [] row (id ∷ ids) = ap (λ xs. id ∷ xs) (keys-added [] row ids)
 keys-added (r ∷ rows) row ids = ap (λ xs. r.0 ∷ xs) (keys-added rows row ids)
@@ -145,7 +145,7 @@ has_row q (r ∷ rows) there = by (is_same_id q r.0) (has_row q rows) there
 
 -- distinct identifiers stay distinct with others that have no row
 HasDistinctIds-added : (rows : List VertexRow) (row : List Value) (ids : List Vid) → HasDistinctIds (keys_of rows) → HasDistinctIds ids → ((q : Vid) → is_none (row_at q rows) ≡ false → has_id q ids ≡ false)
-    → HasDistinctIds (keys_of (rows ++ with_row row ids))
+    → HasDistinctIds (keys_of (rows ++ default_rows row ids))
 HasDistinctIds-added rows row ids rows_distinct ids_distinct apart =
     subst HasDistinctIds (sym (keys-added rows row ids)) (HasDistinctIds-append (keys_of rows) ids rows_distinct ids_distinct (λ q there. apart q (has_row q rows there)))
 
@@ -176,27 +176,27 @@ module _ (rows : List VertexRow) (part parts : ℕ) (edges : List Edge) (missing
       by true false h e = cc
       by false n h e = refl
 
-  pub HasDistinctIds-with_missing : (row : List Value) → IsAscending (keys_of rows) → HasDistinctIds (keys_of (rows ++ with_row row missing))
+  pub HasDistinctIds-with_missing : (row : List Value) → IsAscending (keys_of rows) → HasDistinctIds (keys_of (rows ++ default_rows row missing))
   HasDistinctIds-with_missing row ascending =
       HasDistinctIds-added rows row missing (HasDistinctIds-from_ascending (keys_of rows) ascending) (HasDistinctIds-from_ascending missing are.ascending) apart
 
   -- the rows and the missing ends in ascending order are the table of the rows and of all ends
-  pub table_of-with_missing : (row : List Value) (table : List VertexRow) → IsAscending (keys_of table) → IsPermutation (rows ++ with_row row missing) table
-      → table ≡ table_of (rows ++ with_row row (ends_in_part part parts edges))
+  pub table_of-with_missing : (row : List Value) (table : List VertexRow) → IsAscending (keys_of table) → IsPermutation (rows ++ default_rows row missing) table
+      → table ≡ table_of (rows ++ default_rows row (ends_in_part part parts edges))
   table_of-with_missing row table ascending same =
-      table_of-unique (rows ++ with_row row (ends_in_part part parts edges)) table
+      table_of-unique (rows ++ default_rows row (ends_in_part part parts edges)) table
       (record {
         ascending = ascending;
         first_rows = λ q.
-            row_at-IsPermutation q (rows ++ with_row row missing) table same (HasDistinctIds-from_ascending (keys_of table) ascending)
+            row_at-IsPermutation q (rows ++ default_rows row missing) table same (HasDistinctIds-from_ascending (keys_of table) ascending)
             ∙ row_at-added rows row missing (ends_in_part part parts edges) q (all_missing q);
       })
 
   -- with no missing end, the rows are the table
-  pub table_of-complete : (row : List Value) → missing ≡ [] → IsAscending (keys_of rows) → rows ≡ table_of (rows ++ with_row row (ends_in_part part parts edges))
+  pub table_of-complete : (row : List Value) → missing ≡ [] → IsAscending (keys_of rows) → rows ≡ table_of (rows ++ default_rows row (ends_in_part part parts edges))
   table_of-complete row none ascending =
       table_of-with_missing row rows ascending
-      (subst (λ ids. IsPermutation (rows ++ with_row row ids) rows) (sym none) (subst (λ rs. IsPermutation rs rows) (sym (append-nil rows)) (IsPermutation-refl rows)))
+      (subst (λ ids. IsPermutation (rows ++ default_rows row ids) rows) (sym none) (subst (λ rs. IsPermutation rs rows) (sym (append-nil rows)) (IsPermutation-refl rows)))
 
 -- ---- no rows
 

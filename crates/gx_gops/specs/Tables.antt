@@ -40,9 +40,9 @@ ends_in_part part parts edges = filter (is_in_part part parts) (both_ends edges)
 abbrev pub is_missing : List VertexRow → ℕ → ℕ → Vid → Bool
 is_missing rows part parts id = is_in_part part parts id && is_none (row_at id rows)
 
--- each of the identifiers with the same row
-abbrev pub with_row : List Value → List Vid → List VertexRow
-with_row row ids = map (λ id. (id, row)) ids
+-- the default row for each of the identifiers
+abbrev pub default_rows : List Value → List Vid → List VertexRow
+default_rows default ids = map (λ id. (id, default)) ids
 
 -- ---- examples
 
@@ -60,7 +60,7 @@ unfolding mix_of two_edges
 ends_in_part-example = refl
 
 -- vertex 1 keeps its row, and 3 gets the default
-table_of-example : table_of (one_row ++ with_row (Int (pos 0) ∷ []) (ends_in_part 0 2 two_edges))
+table_of-example : table_of (one_row ++ default_rows (Int (pos 0) ∷ []) (ends_in_part 0 2 two_edges))
     ≡ (record { 0 = pos 1 }, Int (pos 10) ∷ []) ∷ (record { 0 = pos 3 }, Int (pos 0) ∷ []) ∷ []
 unfolding mix_of one_row two_edges
 table_of-example = refl

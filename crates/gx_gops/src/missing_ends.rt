@@ -6,7 +6,7 @@ ghost use Rattle.std.specs.Option.{option_copied};
 ghost use Rattle.gx_index.specs.Ends.{IsSetOf};
 ghost use Rattle.gx_index.specs.Ids.{HasDistinctIds, IsAscending};
 ghost use Rattle.gx_gops.specs.AllEdges.{edges_of_parts};
-ghost use Rattle.gx_gops.specs.Tables.{both_ends, ends_in_part, is_missing, table_of, with_row};
+ghost use Rattle.gx_gops.specs.Tables.{both_ends, default_rows, ends_in_part, is_missing, table_of};
 
 use crate::all_edges::AllEdges;
 use crate::lists::append;
@@ -35,7 +35,7 @@ pub fn add_missing(
 ) -> Result<VPart, NoMemory>
     requires { part < parts }
     ensures { IfOk result (λ table. table ≡ table_of (unwrap_or (option_copied rows.entry) []
-        ++ with_row default.now (ends_in_part part parts (edges_of_parts edges.now)))) }
+        ++ default_rows default.now (ends_in_part part parts (edges_of_parts edges.now)))) }
 {
     match rows {
         Some(rows) => with_missing(alloc, rows, edges, default, part, parts),
@@ -54,7 +54,7 @@ fn with_missing(
 ) -> Result<VPart, NoMemory>
     requires { part < parts }
     ensures { IfOk result (λ table. table ≡ table_of (rows.now
-        ++ with_row default.now (ends_in_part part parts (edges_of_parts edges.now)))) }
+        ++ default_rows default.now (ends_in_part part parts (edges_of_parts edges.now)))) }
 {
     let missing = missing_ends(alloc, rows, edges, part, parts)?;
     // The call takes no time; its clause says that the rows ascend.
@@ -62,10 +62,11 @@ fn with_missing(
     if missing.ids().is_empty() {
         return shared(alloc, rows);
     }
-    let all = rows_and_ids(alloc, rows, missing.ids(), default)?;
+    let all = rows_and_defaults(alloc, rows, missing.ids(), default)?;
     table_of_runs(alloc, all)
 }
 
+// A partition with no row.
 fn no_rows(alloc: Global) -> Result<VPart, NoMemory>
     ensures { IfOk result (λ part. part ≡ []) }
 {
@@ -117,17 +118,17 @@ fn shared(alloc: Global, rows: &VPart) -> Result<VPart, NoMemory>
 }
 
 // A copy of each row, and then of the default row for each of these identifiers.
-fn rows_and_ids(
+fn rows_and_defaults(
     alloc: Global,
     rows: &VPart,
     ids: &[Vid],
     default: &Row,
 ) -> Result<Vec<(Vid, Row)>, NoMemory>
-    ensures { IfOk result (λ all. all.items ≡ rows.now ++ with_row default.now ids.now) }
+    ensures { IfOk result (λ all. all.items ≡ rows.now ++ default_rows default.now ids.now) }
 {
     let mut all = Vec::with_capacity(alloc, rows.rows().count() + ids.len())?;
     append_rows(&mut all, rows.rows())?;
-    append_ids(&mut all, ids, default)?;
+    append_defaults(&mut all, ids, default)?;
     Ok(all)
 }
 
@@ -141,13 +142,17 @@ fn append_rows(all: &mut Vec<(Vid, Row)>, rows: VRows<'_>) -> Result<(), NoMemor
     Ok(())
 }
 
-// A copy of this row for each of these identifiers, after the other rows.
-fn append_ids(all: &mut Vec<(Vid, Row)>, ids: &[Vid], row: &Row) -> Result<(), NoMemory>
-    ensures { OnOk result (all.new.items ≡ all.old.items ++ with_row row.now ids.now) }
+// A copy of the default row for each of these identifiers, after the other rows.
+fn append_defaults(
+    all: &mut Vec<(Vid, Row)>,
+    ids: &[Vid],
+    default: &Row,
+) -> Result<(), NoMemory>
+    ensures { OnOk result (all.new.items ≡ all.old.items ++ default_rows default.now ids.now) }
 {
     let mut rest = ids;
     while let [id, after @ ..] = rest {
-        append(all, (*id, row.copy()?))?;
+        append(all, (*id, default.copy()?))?;
         rest = after;
     }
     Ok(())
