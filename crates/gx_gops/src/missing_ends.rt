@@ -143,11 +143,7 @@ fn append_rows(all: &mut Vec<(Vid, Row)>, rows: VRows<'_>) -> Result<(), NoMemor
 }
 
 // A copy of the default row for each of these identifiers, after the other rows.
-fn append_defaults(
-    all: &mut Vec<(Vid, Row)>,
-    ids: &[Vid],
-    default: &Row,
-) -> Result<(), NoMemory>
+fn append_defaults(all: &mut Vec<(Vid, Row)>, ids: &[Vid], default: &Row) -> Result<(), NoMemory>
     ensures { OnOk result (all.new.items ≡ all.old.items ++ default_rows default.now ids.now) }
 {
     let mut rest = ids;
