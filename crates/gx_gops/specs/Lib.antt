@@ -1,0 +1,4 @@
+pub mod AllEdges
+pub mod Moving
+pub mod TableLaws
+pub mod Tables
