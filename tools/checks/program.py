@@ -40,7 +40,7 @@ def check_console_blocks():
         for number, block in enumerate(blocks, 1):
             for step in re.split(r"^\$ ", block, flags=re.M)[1:]:
                 command, _, wanted = step.partition("\n")
-                ended = run(["bash", "-c", command + " 2>&1"])
+                ended = run(["bash", "-c", "exec 2>&1\n" + command])
                 printed = ended.stdout.decode(errors="replace")
                 problem = None if printed == wanted else f"printed {printed!r}"
                 judge(f"{document.name}, console block {number}, `{command}`", problem)
