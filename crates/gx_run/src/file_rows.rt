@@ -3,7 +3,12 @@
 ghost use Rattle.std.specs.Prelude.{◌≡◌, ◌<◌, ◌⊎◌, ◌^◌, IfOk, length, option_map};
 ghost use Rattle.gx_load.specs.LoadResults.{Gives};
 ghost use Rattle.gx_load.specs.Loading.{rows_of_csv};
-ghost use Rattle.gx_model.specs.DataFiles.{file_name, refusal_of_rows, rows_in_file, rows_or_refusal};
+ghost use Rattle.gx_model.specs.DataFiles.{
+  file_name,
+  refusal_of_rows,
+  rows_in_file,
+  rows_or_refusal,
+};
 ghost use Rattle.gx_run.specs.LoadedFiles.{column_refused, data_file_seen};
 ghost use Rattle.gx_run.specs.Steps.{Returns};
 

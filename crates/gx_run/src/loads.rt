@@ -1,11 +1,34 @@
 //! All data files of a script, read in its order.
 
-ghost use Rattle.std.specs.Prelude.{◌≡◌, ◌<◌, ◌≤◌, ◌+◌, ◌^◌, IfErr, IsSomeAnd, OnOk, length, option_map};
+ghost use Rattle.std.specs.Prelude.{
+  ◌≡◌,
+  ◌<◌,
+  ◌≤◌,
+  ◌+◌,
+  ◌^◌,
+  IfErr,
+  IsSomeAnd,
+  OnOk,
+  length,
+  option_map,
+};
 ghost use Rattle.gx_rows.specs.Limits.{most_of};
 ghost use Rattle.gx_rows.specs.declared.limit_kind.LimitKind.TheVariants as limit;
 ghost use Rattle.gx_model.specs.DataFiles as model;
-ghost use Rattle.gx_model.specs.DataFiles.{file_name, rows_of_script, with_bytes, with_file, with_file_if};
-ghost use Rattle.gx_run.specs.LoadedFiles.{HasSumsWithin, IsLoaded, data_file_seen, file_of_number, loaded_seen};
+ghost use Rattle.gx_model.specs.DataFiles.{
+  file_name,
+  rows_of_script,
+  with_bytes,
+  with_file,
+  with_file_if,
+};
+ghost use Rattle.gx_run.specs.LoadedFiles.{
+  HasSumsWithin,
+  IsLoaded,
+  data_file_seen,
+  file_of_number,
+  loaded_seen,
+};
 ghost use Rattle.gx_run.specs.Steps.{NamesOnly, Reads, Returns};
 
 use crate::data_file::DataFile;

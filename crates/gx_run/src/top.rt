@@ -1,14 +1,38 @@
 //! The top call: the arguments to a script's name, and the script's run. It sees files and sinks only
 //! through their traits.
 
-ghost use Rattle.std.specs.Prelude.{◌≡◌, ◌≢◌, ◌≤◌, ◌⊎◌, ◌↔◌, List, ℕ, None, Some, IfErr, IsSome, option_map};
+ghost use Rattle.std.specs.Prelude.{
+  ◌≡◌,
+  ◌≢◌,
+  ◌≤◌,
+  ◌⊎◌,
+  ◌↔◌,
+  List,
+  ℕ,
+  None,
+  Some,
+  IfErr,
+  IsSome,
+  option_map,
+};
 ghost use Rattle.gx_outside.specs.Contents.{Contents};
 ghost use Rattle.gx_outside.specs.Faults.{FaultCounted};
 ghost use Rattle.gx_print.specs.ExitCodes.{exit_code};
 ghost use Rattle.gx_model.specs.ScriptMeaning.{refused_with};
 ghost use Rattle.gx_run.specs.Args.{args_of, script_arg};
 ghost use Rattle.gx_run.specs.Meaning.{loaded_under, meaning, meaning_under};
-ghost use Rattle.gx_run.specs.RunResults.{Ends, IsMissing, IsRequested, IsScriptOrLoaded, Means, RunEnds, Tells, WritesAll, WritesFirst, WritesProperPrefix};
+ghost use Rattle.gx_run.specs.RunResults.{
+  Ends,
+  IsMissing,
+  IsRequested,
+  IsScriptOrLoaded,
+  Means,
+  RunEnds,
+  Tells,
+  WritesAll,
+  WritesFirst,
+  WritesProperPrefix,
+};
 ghost use Rattle.gx_run.specs.Steps.{NamesOnly, Reads};
 
 use crate::actions::print_actions;
