@@ -1,0 +1,5 @@
+pub mod Changes
+pub mod LargerNets
+pub mod OneRun
+pub mod SameBlocks
+pub mod WantedBlocks

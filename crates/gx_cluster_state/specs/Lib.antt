@@ -1,0 +1,6 @@
+pub mod Blocks
+pub mod Nets
+pub mod Runs
+pub mod Shapes
+pub mod Turns
+pub mod Values
