@@ -8,6 +8,7 @@ use Rattle.gx_rows.specs.declared.vid.Vid.{Vid}
 use Rattle.gx_lineage.specs.declared.block_id.BlockId.{BlockId}
 use Rattle.gx_cluster_state.specs.Blocks.{block_cmp, same_block}
 use Rattle.gx_cluster_state.specs.Shapes.{Shape, is_held, is_running, finished, runs_block, started}
+use Rattle.gx_cluster_state.proofs.Positions.{list_any-at}
 use Rattle.gx_cluster_state.proofs.SameBlocks.{lookup-insert_entry}
 
 or_swap : (a b c : Bool) → (a || (b || c)) ≡ (b || (a || c))
@@ -25,18 +26,6 @@ list_any-set p (z ∷ zs) zero x y h f =
     ap (λ (t : Bool). p y || (t || list_any p zs)) (sym fails)
 list_any-set p (z ∷ zs) (suc i) x y h f =
     ap (λ (t : Bool). p z || t) (list_any-set p zs i x y h f) ∙ or_swap (p z) (p y) (list_any p zs)
-
-or_second : (a b : Bool) → b ≡ true → (a || b) ≡ true
-or_second true b h = refl
-or_second false b h = h
-
-list_any-at : {X : Type 0} (p : X → Bool) (xs : List X) (i : ℕ) (x : X) → slice_get xs i ≡ Some x → p x ≡ true → list_any p xs ≡ true
-list_any-at p [] i x h t = cc
-list_any-at p (z ∷ zs) zero x h t =
-    let same : z ≡ x = cc in
-    let passes : p z ≡ true = ap p same ∙ t in
-    ap (λ (u : Bool). u || list_any p zs) passes
-list_any-at p (z ∷ zs) (suc i) x h t = or_second (p z) (list_any p zs) (list_any-at p zs i x h t)
 
 is_some-cond : {A : Type 0} (t : Bool) (v : A) (o : Option A) → is_some (cond t (Some v) o) ≡ (t || is_some o)
 is_some-cond true v o = refl

@@ -16,6 +16,7 @@ mod laws;
 mod log_entry;
 mod running;
 mod shared;
+mod workers;
 
 pub use captured::Captured;
 pub use cargo::Cargo;
@@ -26,3 +27,4 @@ pub use laws::{commands_have_one_run, runs_stand_under_larger_nets};
 pub use log_entry::LogEntry;
 pub use running::Running;
 pub use shared::Shared;
+pub use workers::Workers;
