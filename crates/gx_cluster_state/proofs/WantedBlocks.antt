@@ -1,6 +1,7 @@
 -- Wanted and ready blocks after a change.
-use Rattle.std.proofs.Common.{◌≡◌, ◌∙◌, ℕ, Bool, true, false, List, Some, None, refl, sym}
-use Rattle.std.specs.Prelude.{Contains, slice_get}
+use Rattle.std.proofs.Common.{◌≡◌, Bool, false, List}
+use Rattle.std.specs.Prelude.{All, Contains}
+use Rattle.std.proofs.lemmas.List.Elements.{All-contains}
 use Rattle.gx_lineage.specs.declared.block_id.BlockId.{BlockId}
 use Rattle.gx_cluster_state.specs.Nets.{Net, Wanted, target, input}
 use Rattle.gx_cluster_state.specs.Shapes.{Shape, is_held, is_running}
@@ -19,3 +20,9 @@ pub wanted_moves : {n : Net} {ts : List BlockId} {s t : Shape} {b : BlockId} (ke
 wanted_moves keeps held idle k (target h f) = target h (held _ k f)
 wanted_moves keeps held idle k (input {c = c} w i h f) =
     let moved = idle c _ (wanted_missing w) i h f in input (wanted_moves keeps held idle moved.0 w) moved.1 h (held _ k f)
+
+-- wanted blocks are in the net
+pub wanted_in : {n : Net} {ts : List BlockId} {s : Shape} {b : BlockId} → All n.has ts → ((c d : BlockId) → n.has c → Contains (n.inputs c) d → n.has d)
+    → Wanted n ts s b → n.has b
+wanted_in {n = n} {ts = ts} a closed (target h f) = All-contains n.has ts _ a h
+wanted_in {n = n} {ts = ts} a closed (input {b = b} {c = c} w i h f) = closed c b (wanted_in a closed w) h

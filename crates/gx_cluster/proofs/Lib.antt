@@ -1,0 +1,6 @@
+pub mod FiledBlocks
+pub mod FoundBlocks
+pub mod Lists
+pub mod Members
+pub mod MissingBlocks
+pub mod ShapeOf
