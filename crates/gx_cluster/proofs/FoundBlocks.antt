@@ -4,15 +4,16 @@ use Rattle.std.specs.Prelude.{All, Contains, max}
 use Rattle.std.specs.Ordering.{nat_cmp, ordering_then}
 use Rattle.std.specs.declared.cmp.Ordering.TheVariants.{Less, Equal, Greater}
 use Rattle.std.proofs.lemmas.Bool.Decides.{nat_tests}
-use Rattle.std.proofs.lemmas.Cmp.{ranked}
+use Rattle.std.proofs.lemmas.Map.Lookups.{exact_unsigned}
 use Rattle.gx_lineage.specs.declared.block_id.BlockId.{BlockId}
+use Rattle.gx_lineage.specs.Lineage.{Lineage, IsBlock, IsSound, block_inputs}
 use Rattle.gx_cluster_state.specs.Blocks.{block_cmp, same_block}
 use Rattle.gx_cluster_state.specs.Nets.{Net, Wanted, target, input}
 use Rattle.gx_cluster_state.specs.Shapes.{Shape, is_held, is_running}
 use Rattle.gx_cluster_state.proofs.SameBlocks.{same_exact}
 use Rattle.gx_cluster.specs.Agendas.{IsOpen, has_block}
 use Rattle.gx_cluster.specs.Sweeps.{AddsMissing, IsAddedFrom, IsReached, IsSweep, block_height, block_number, in_front, is_missing, runs, was_found, was_there}
-use Rattle.gx_cluster.proofs.Members.{both, has_push_cases, has_push_kept, has_push_last, or_cases}
+use Rattle.gx_cluster.proofs.Members.{both, has_push_cases, has_push_kept, has_push_last, or_cases, or_first, or_second, same_itself}
 
 nothing_there : {A : Type 0} (b : BlockId) → has_block [] b ≡ true → A
 nothing_there b h = both h refl
@@ -35,7 +36,7 @@ still_there : (k b : BlockId) (front rest : List BlockId) (t : Bool) → same_bl
 still_there k b front rest true same is h = inl (same_exact k b same)
 still_there k b front rest false same is h = inr (is ∙ h)
 
-was_in_front : (k b : BlockId) (front rest : List BlockId) (t : Bool) → has_block rest b ≡ cond t false (has_block front b)
+pub was_in_front : (k b : BlockId) (front rest : List BlockId) (t : Bool) → has_block rest b ≡ cond t false (has_block front b)
     → has_block rest b ≡ true → has_block front b ≡ true
 was_in_front k b front rest true is h = both h is
 was_in_front k b front rest false is h = sym is ∙ h
@@ -114,7 +115,10 @@ height_above parts (k ∷ ks) b h =
 
 pub height_below : (parts : ℕ) (ks : List BlockId) (m : ℕ) → ((q : BlockId) → has_block ks q ≡ true → block_number parts q < m) → block_height parts ks ≤ m
 height_below parts [] m h = omega arith
-height_below parts (k ∷ ks) m h = ?
+height_below parts (k ∷ ks) m h =
+    let first : block_number parts k < m = h k (or_first (same_block k k) (has_block ks k) (same_itself k)) in
+    let rest : block_height parts ks ≤ m = height_below parts ks m (λ q there. h q (or_second (same_block q k) (has_block ks q) there)) in
+    omega arith
 
 number_by_node : (a p x b y : ℕ) → a < b → x < p → a * p + x < b * p + y
 number_by_node a p x b y less within = let whole : (a + 1) * p ≤ b * p = grind arith in omega arith
@@ -123,6 +127,36 @@ number_by_node a p x b y less within = let whole : (a + 1) * p ≤ b * p = grind
 pub smaller_by_node : (parts : ℕ) (q k : BlockId) → q.part < parts → q.node.0 < k.node.0 → block_number parts q < block_number parts k
 smaller_by_node parts q k within less = number_by_node q.node.0 parts q.part k.node.0 k.part less within
 
+-- the first of two orderings that decides
+less_cases : (o p : Ordering) → ordering_then o p ≡ Less → (o ≡ Less) ⊎ ((o ≡ Equal) × (p ≡ Less))
+less_cases Less p h = inl refl
+less_cases Equal p h = inr (refl, h)
+less_cases Greater p h = absurd (cc)
+
+less_by_cmp : (m n : ℕ) → nat_cmp m n ≡ Less → m < n
+less_by_cmp m n h = grind (arith, nat_tests)
+
+smaller_by_part : (parts : ℕ) (q k : BlockId) → q.node.0 ≡ k.node.0 → q.part < k.part → block_number parts q < block_number parts k
+smaller_by_part parts q k same less = let product : q.node.0 * parts ≡ k.node.0 * parts = ap (λ (m : ℕ). m * parts) same in omega arith
+
 -- a smaller block has a smaller number
 pub smaller_by_order : (parts : ℕ) (q k : BlockId) → q.part < parts → block_cmp q k ≡ Less → block_number parts q < block_number parts k
-smaller_by_order parts q k within less = ?
+smaller_by_order parts q k within less =
+    ⊎_elim (λ node. smaller_by_node parts q k within (less_by_cmp q.node.0 k.node.0 node))
+    (λ both_parts. smaller_by_part parts q k (exact_unsigned q.node.0 k.node.0 both_parts.0) (less_by_cmp q.part k.part both_parts.1))
+    (less_cases (nat_cmp q.node.0 k.node.0) (nat_cmp q.part k.part) less)
+
+-- each block that comes into the front has a smaller number than the one that left it
+pub height_falls : (parts : ℕ) (front more : List BlockId) (k : BlockId) → has_block front k ≡ true
+    → ((q : BlockId) → has_block more q ≡ true → block_number parts q < block_number parts k) → block_height parts more < block_height parts front
+height_falls parts front more k there smaller =
+    let above : block_number parts k < block_height parts front = height_above parts front k there in
+    let below : block_height parts more ≤ block_number parts k = height_below parts more (block_number parts k) smaller in
+    omega arith
+
+-- the blocks that were left, and those that were added
+pub smaller_by_added : (l : Lineage) (s : Shape) (rest : List BlockId) (k b : BlockId) → IsSound l → IsBlock l k
+    → ((q : BlockId) → has_block rest q ≡ true → block_number l.parts q < block_number l.parts k) → IsAddedFrom s (block_inputs l k) rest b
+    → block_number l.parts b < block_number l.parts k
+smaller_by_added l s rest k b sound is smaller (was_there h) = smaller b h
+smaller_by_added l s rest k b sound is smaller (is_missing c f) = smaller_by_node l.parts b k (sound.blocks k b is c).part (sound.earlier k b c)

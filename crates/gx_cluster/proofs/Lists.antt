@@ -1,6 +1,6 @@
 -- Look-ups and lists.
-use Rattle.std.proofs.Common.{◌≡◌, ◌∙◌, ℕ, Bool, true, false, cond, List, [], ◌∷◌, ◌++◌, Option, Some, None, get_or, refl, ap, sym}
-use Rattle.std.specs.Prelude.{◌<◌, ◌+◌, IsSome, is_some, length, map, option_map, take, unwrap_or}
+use Rattle.std.proofs.Common.{◌≡◌, ◌∙◌, ℕ, Bool, true, false, cond, List, [], ◌∷◌, ◌++◌, Option, Some, None, Result, Ok, Err, get_or, refl, ap, sym, arith}
+use Rattle.std.specs.Prelude.{◌<◌, ◌+◌, IsSome, OnErr, OnOk, is_some, length, map, option_map, take, unwrap_or}
 use Rattle.std.specs.Map.{lookup}
 use Rattle.std.proofs.lemmas.List.{map_more, map_push}
 use Rattle.gx_lineage.specs.declared.block_id.BlockId.{BlockId}
@@ -42,3 +42,21 @@ captured_more {A} held bs i d vs ws h v so_far below found is more =
     ap (map Some) more ∙ (map_push Some vs v ∙ (ap (λ os. os ++ Some v ∷ []) so_far
     ∙ (ap (λ o. map (held_value held) (take i bs) ++ o ∷ []) (ap Some is ∙ ap (option_map (λ (x : Held A). x.value)) found)
     ∙ sym (map_more (held_value held) bs i d below))))
+
+-- two facts of a success give a third
+pub on_both : {A E P Q R : Type 0} (r : Result A E) → (P → Q → R) → OnOk r P → OnOk r Q → OnOk r R
+on_both (Ok x) f p q = f p q
+on_both (Err e) f p q = tt
+
+pub on_ok : {A E P Q : Type 0} (r : Result A E) → OnOk r P → (P → Q) → OnOk r Q
+on_ok (Ok x) p f = f p
+on_ok (Err e) p f = tt
+
+-- what follows from a success and from a failure
+pub either_way : {A E P Q G : Type 0} (r : Result A E) → OnOk r P → OnErr r Q → (P → G) → (Q → G) → G
+either_way (Ok x) p q f h = f p
+either_way (Err e) p q f h = h q
+
+pub empty_by : {A : Type 0} (xs : List A) → (0 < length xs → false ≡ true) → xs ≡ []
+empty_by [] h = refl
+empty_by (x ∷ xs) h = let contrary : false ≡ true = h (omega arith) in absurd (cc)

@@ -1,9 +1,10 @@
 -- The wanted blocks that do not run: those that are ready, and those that wait for an input.
-use Rattle.std.specs.Prelude.{◌≡◌, ◌⊎◌, ◌<◌, ℕ, Bool, true, false, List, [], Contains, unwrap_or}
+use Rattle.std.specs.Prelude.{◌≡◌, ◌⊎◌, ◌<◌, ℕ, Bool, true, false, List, [], Contains, cond, unwrap_or}
 use Rattle.std.specs.List.{list_any}
 use Rattle.std.specs.Map.{lookup}
+use Rattle.std.specs.Ordering.{is_gt}
 use Rattle.gx_lineage.specs.declared.block_id.BlockId.{BlockId}
-use Rattle.gx_cluster_state.specs.Blocks.{same_block}
+use Rattle.gx_cluster_state.specs.Blocks.{block_cmp, same_block}
 use Rattle.gx_cluster_state.specs.Nets.{Net, IsReady, Wanted}
 use Rattle.gx_cluster_state.specs.Shapes.{Shape, is_held, is_running}
 
@@ -44,3 +45,10 @@ pub record IsAgenda (n : Net) (targets : List BlockId) (s : Shape) (a : BlockAge
   pub waiting : (c b : BlockId) → has_block (waiting_for a.waiting c) b ≡ true → Waits n targets s c b
   pub unfiled : (b : BlockId) → has_block pending b ≡ true → IsOpen n targets s b
   pub complete : (b : BlockId) → IsOpen n targets s b → IsListed a pending b
+
+-- the least ready block b was removed
+pub record Pops (old new : BlockAgenda) (b : BlockId) : Type 0 where
+  pub there : has_block old.ready b ≡ true
+  pub least : (q : BlockId) → has_block old.ready q ≡ true → is_gt (block_cmp b q) ≡ false
+  pub rest : (q : BlockId) → has_block new.ready q ≡ cond (same_block b q) false (has_block old.ready q)
+  pub waiting_kept : new.waiting ≡ old.waiting

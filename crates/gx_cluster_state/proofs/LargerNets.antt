@@ -1,5 +1,5 @@
 -- A run under a net is one under each larger net.
-use Rattle.std.proofs.Common.{◌≡◌, ◌≢◌, ◌∙◌, ◌⊎◌, inl, inr, ⊎_elim, ℕ, suc, zero, ◌<◌, ◌≤◌, Bool, true, false, List, [], ◌∷◌, Option, Some, None, refl, ap, sym, subst, arith}
+use Rattle.std.proofs.Common.{◌≡◌, ◌≢◌, ◌∙◌, ◌⊎◌, inl, inr, ⊎_elim, ℕ, ◌<◌, ◌≤◌, Bool, true, false, List, [], ◌∷◌, Option, Some, None, refl, ap, sym, subst, arith}
 use Rattle.std.specs.Prelude.{All, Contains, is_none, is_some, position, set, slice_get}
 use Rattle.std.proofs.lemmas.List.Elements.{All-contains, All-weaker}
 use Rattle.gx_lineage.specs.declared.block_id.BlockId.{BlockId}
@@ -9,6 +9,7 @@ use Rattle.gx_cluster_state.specs.declared.event.Event.TheVariants.{Start, Finis
 use Rattle.gx_cluster_state.specs.Nets.{Net, IsLeastReady, IsReady, IsStuck, Wanted, target, input}
 use Rattle.gx_cluster_state.specs.Runs.{Command, Demand, Release, Grows, Part, Passes, Point, Run, RunsIn, Step}
 use Rattle.gx_cluster_state.specs.Shapes.{Shape, all_held, finished, is_held, is_running, lost, released, started, with_nothing}
+use Rattle.gx_cluster_state.proofs.Positions.{get-set}
 use Rattle.gx_cluster_state.specs.Turns.{FirstFinishes, FirstStarts, Finishes, Starts, Turn, Turns, ended, taken, coming, remaining}
 
 wanted_up : {n m : Net} {ts : List BlockId} {s : Shape} {b : BlockId} → Grows n m → All n.has ts → Wanted n ts s b → n.has b × Wanted m ts s b
@@ -43,15 +44,6 @@ least_up g a l = record { ready = ready_up g a l.ready; least = λ c r. l.least 
 
 stuck_up : {n m : Net} {ts : List BlockId} {s : Shape} → Grows n m → All n.has ts → IsStuck n ts s → IsStuck m ts s
 stuck_up g a stuck b r = stuck b (ready_down g a r)
-
--- another worker's block after a change at worker w
-get-set : (xs : List (Option BlockId)) (w v : ℕ) (y : Option BlockId) (b : BlockId) → slice_get (set xs w y) v ≡ Some (Some b)
-    → (y ≡ Some b) ⊎ (slice_get xs v ≡ Some (Some b))
-get-set [] w v y b h = inr h
-get-set (x ∷ xs) zero zero y b h = inl (let found : Some y ≡ Some (Some b) = h in cc)
-get-set (x ∷ xs) zero (suc v) y b h = inr h
-get-set (x ∷ xs) (suc w) zero y b h = inr h
-get-set (x ∷ xs) (suc w) (suc v) y b h = get-set xs w v y b h
 
 set_runs : (n : Net) (xs : List (Option BlockId)) (w : ℕ) (y : Option BlockId) → ((b : BlockId) → y ≡ Some b → n.has b)
     → ((v : ℕ) (b : BlockId) → slice_get xs v ≡ Some (Some b) → n.has b)

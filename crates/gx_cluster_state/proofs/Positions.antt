@@ -1,5 +1,5 @@
 -- The first item that passes a test, and whether one passes, by index.
-use Rattle.std.proofs.Common.{◌≡◌, ◌∙◌, ◌⊎◌, inl, inr, ⊎_elim, ℕ, ◌+◌, ◌<◌, suc, zero, Bool, true, false, ◌||◌, cond, List, [], ◌∷◌, length, map, not, Option, Some, None, refl, ap, sym, subst, arith}
+use Rattle.std.proofs.Common.{◌≡◌, ◌∙◌, ◌⊎◌, inl, inr, ⊎_elim, ℕ, ◌+◌, ◌<◌, suc, zero, Bool, true, false, ◌||◌, cond, List, [], ◌∷◌, length, map, not, set, Option, Some, None, refl, ap, sym, subst, arith}
 use Rattle.std.specs.Prelude.{nat_lt, option_map, position, slice_get}
 use Rattle.std.specs.List.{list_any, position_or_len}
 use Rattle.std.proofs.lemmas.Bool.Decides.{nat_tests}
@@ -92,3 +92,18 @@ slice_get-map g (x ∷ xs) (suc i) = slice_get-map g xs i
 -- an item of a mapped list
 pub slice_get-mapped : {X Y : Type 0} (g : X → Y) (xs : List X) (i : ℕ) (x : X) → slice_get xs i ≡ Some x → slice_get (map g xs) i ≡ Some (g x)
 slice_get-mapped g xs i x h = slice_get-map g xs i ∙ ap (option_map g) h
+
+-- an item of a list after one place was overwritten
+pub get-set : {X : Type 0} (xs : List (Option X)) (w v : ℕ) (y : Option X) (x : X) → slice_get (set xs w y) v ≡ Some (Some x)
+    → (y ≡ Some x) ⊎ (slice_get xs v ≡ Some (Some x))
+get-set [] w v y x h = inr h
+get-set (z ∷ zs) zero zero y x h = inl (let found : Some y ≡ Some (Some x) = h in cc)
+get-set (z ∷ zs) zero (suc v) y x h = inr h
+get-set (z ∷ zs) (suc w) zero y x h = inr h
+get-set (z ∷ zs) (suc w) (suc v) y x h = get-set zs w v y x h
+
+-- an item that is there has an index below the length
+pub slice_get-below : {X : Type 0} (xs : List X) (i : ℕ) (x : X) → slice_get xs i ≡ Some x → i < length xs
+slice_get-below [] i x h = absurd (cc)
+slice_get-below (z ∷ zs) zero x h = omega arith
+slice_get-below (z ∷ zs) (suc i) x h = let below : i < length zs = slice_get-below zs i x h in omega arith

@@ -3,6 +3,8 @@ use Rattle.std.proofs.Common.{◌≡◌, Bool, false, List}
 use Rattle.std.specs.Prelude.{All, Contains}
 use Rattle.std.proofs.lemmas.List.Elements.{All-contains}
 use Rattle.gx_lineage.specs.declared.block_id.BlockId.{BlockId}
+use Rattle.gx_cluster_state.specs.declared.event.Event.{Event}
+use Rattle.gx_cluster_state.specs.Turns.{Turns, ended, taken}
 use Rattle.gx_cluster_state.specs.Nets.{Net, Wanted, target, input}
 use Rattle.gx_cluster_state.specs.Shapes.{Shape, is_held, is_running}
 
@@ -26,3 +28,9 @@ pub wanted_in : {n : Net} {ts : List BlockId} {s : Shape} {b : BlockId} → All 
     → Wanted n ts s b → n.has b
 wanted_in {n = n} {ts = ts} a closed (target h f) = All-contains n.has ts _ a h
 wanted_in {n = n} {ts = ts} a closed (input {b = b} {c = c} w i h f) = closed c b (wanted_in a closed w) h
+
+-- turns, and then more turns
+pub turns_then : {n : Net} {ts : List BlockId} {last : Shape} {left : List Event} {mid : Shape} {more : List Event} {s : Shape} {es : List Event}
+    → Turns n ts mid more s es → Turns n ts last left mid more → Turns n ts last left s es
+turns_then ended rest = rest
+turns_then (taken h t first) rest = taken h t (turns_then first rest)

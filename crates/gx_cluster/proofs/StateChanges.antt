@@ -1,0 +1,105 @@
+-- A state after a task began or a value came.
+use Rattle.std.proofs.Common.{◌≡◌, ◌∙◌, ◌⊎◌, inl, inr, ⊎_elim, ℕ, Bool, true, false, cond, List, [], ◌∷◌, ◌++◌, Option, Some, None, Ordering, map, set, refl, ap, sym, subst}
+use Rattle.std.specs.Prelude.{option_map, slice_get}
+use Rattle.std.specs.List.{AllZip}
+use Rattle.std.specs.Map.{lookup}
+use Rattle.std.specs.BTreeMap.{insert_entry}
+use Rattle.std.specs.Ordering.{match_ordering}
+use Rattle.std.specs.declared.cmp.Ordering.TheVariants.{Less, Equal, Greater}
+use Rattle.std.proofs.lemmas.List.{map-set}
+use Rattle.gx_rows.specs.declared.vid.Vid.{Vid}
+use Rattle.gx_lineage.specs.declared.block_id.BlockId.{BlockId}
+use Rattle.gx_lineage.specs.Lineage.{Lineage, IsBlock, block_inputs}
+use Rattle.gx_cluster_state.specs.declared.held.Held.{Held}
+use Rattle.gx_cluster_state.specs.declared.running.Running.{Running}
+use Rattle.gx_cluster_state.specs.declared.log_entry.LogEntry.TheVariants as entry
+use Rattle.gx_cluster_state.specs.Blocks.{block_cmp, same_block}
+use Rattle.gx_cluster_state.specs.Shapes.{Shape, finished, started}
+use Rattle.gx_cluster_state.specs.Tasks.{task_block}
+use Rattle.gx_cluster_state.proofs.Positions.{get-set}
+use Rattle.gx_cluster_state.proofs.SameBlocks.{lookup-insert_entry, same_exact}
+use Rattle.gx_cluster.specs.States.{AreContents, HoldsContents, State, held_value, shape, with_task, with_value}
+
+pub shape-with_task : {A : Type 0} (s : State A) (w : ℕ) (b : BlockId) (vs : List A) → shape (with_task s w b vs) ≡ started (shape s) w b
+unfolding shape started
+shape-with_task {A} s w b vs =
+    ap (λ (tasks : List (Option BlockId)).
+        let x : Shape = record { held = map (λ e. (e.0, e.1.worker)) s.held; running = tasks; log = s.log ++ entry.Started w b ∷ [] } in x)
+    (map-set task_block s.running w (Some (record { block = b; inputs = vs })))
+
+map_insert_head : {A : Type 0} (o : Ordering) (e : BlockId × Held A) (es : List (BlockId × Held A)) (b : BlockId) (h : Held A)
+    → map (λ x. (x.0, x.1.worker)) (insert_entry block_cmp es b h) ≡ insert_entry block_cmp (map (λ x. (x.0, x.1.worker)) es) b h.worker
+    → map (λ x. (x.0, x.1.worker)) (match_ordering o ((b, h) ∷ e ∷ es) ((e.0, h) ∷ es) (e ∷ insert_entry block_cmp es b h))
+        ≡ match_ordering o ((b, h.worker) ∷ (e.0, e.1.worker) ∷ map (λ x. (x.0, x.1.worker)) es) ((e.0, h.worker) ∷ map (λ x. (x.0, x.1.worker)) es)
+            ((e.0, e.1.worker) ∷ insert_entry block_cmp (map (λ x. (x.0, x.1.worker)) es) b h.worker)
+map_insert_head Less e es b h ih = refl
+map_insert_head Equal e es b h ih = refl
+map_insert_head Greater e es b h ih = ap (λ (xs : List (BlockId × ℕ)). (e.0, e.1.worker) ∷ xs) ih
+
+map_insert : {A : Type 0} (es : List (BlockId × Held A)) (b : BlockId) (h : Held A)
+    → map (λ x. (x.0, x.1.worker)) (insert_entry block_cmp es b h) ≡ insert_entry block_cmp (map (λ x. (x.0, x.1.worker)) es) b h.worker
+map_insert [] b h = refl
+map_insert (e ∷ es) b h = map_insert_head (block_cmp b e.0) e es b h (map_insert es b h)
+
+same_shape : (a b : List (BlockId × ℕ)) (x y : List (Option BlockId)) (l : Shape) → a ≡ b → x ≡ y
+    → record { held = a; running = x; log = l.log } ≡ (let s : Shape = record { held = b; running = y; log = l.log } in s)
+same_shape a b x y l p q =
+    ap (λ (z : List (BlockId × ℕ)). let s : Shape = record { held = z; running = x; log = l.log } in s) p
+    ∙ ap (λ (z : List (Option BlockId)). let s : Shape = record { held = b; running = z; log = l.log } in s) q
+
+pub shape-with_value : {A : Type 0} (s : State A) (w : ℕ) (b : BlockId) (v : A) (cargo : List (ℕ × Vid))
+    → shape (with_value s w b v cargo) ≡ finished (shape s) w b cargo
+unfolding shape finished
+shape-with_value {A} s w b v cargo =
+    same_shape _ _ _ _ (record { held = []; running = []; log = s.log ++ entry.Finished w b cargo ∷ [] })
+    (map_insert s.held b (record { worker = w; value = v })) (map-set task_block s.running w None)
+
+of_found : {A : Type 0} (content : BlockId → A → Type 0) (b : BlockId) (v : A) (o : Option (Held A)) → ((h : Held A) → o ≡ Some h → content b h.value)
+    → Some v ≡ option_map (λ h. h.value) o → content b v
+of_found content b v (Some h) is e = let same : h.value ≡ v = cc in subst (content b) same (is h refl)
+of_found content b v None is e = absurd (cc)
+
+-- ---- contents
+pub are_contents : {A : Type 0} (content : BlockId → A → Type 0) (held : List (BlockId × Held A)) (bs : List BlockId) (vs : List A)
+    → ((b : BlockId) (h : Held A) → lookup (same_block b) held ≡ Some h → content b h.value) → map Some vs ≡ map (held_value held) bs
+    → AreContents content bs vs
+are_contents content held [] [] is e = tt
+are_contents content held [] (v ∷ vs) is e = absurd (cc)
+are_contents content held (b ∷ bs) [] is e = absurd (cc)
+are_contents content held (b ∷ bs) (v ∷ vs) is e =
+    let first : Some v ≡ held_value held b = cc in
+    let rest : map Some vs ≡ map (held_value held) bs = cc in
+    (of_found content b v (lookup (same_block b) held) (λ h found. is b h found) first, are_contents content held bs vs is rest)
+
+task_is : {A : Type 0} (b : BlockId) (vs : List A) (x : Running A) → Some (record { block = b; inputs = vs }) ≡ Some x
+    → (let t : Running A = record { block = b; inputs = vs } in t) ≡ x
+task_is b vs x h = cc
+
+pub contents_task : {A : Type 0} (content : BlockId → A → Type 0) (l : Lineage) (s : State A) (w : ℕ) (b : BlockId) (vs : List A)
+    → IsBlock l b → AreContents content (block_inputs l b) vs → HoldsContents content l s → HoldsContents content l (with_task s w b vs)
+contents_task content l s w b vs is inputs r = record {
+  held = r.held;
+  blocks = λ v x h. ⊎_elim (λ new. subst (λ (t : Running _). IsBlock l t.block) (task_is b vs x new) is) (λ old. r.blocks v x old)
+      (get-set s.running w v (Some (record { block = b; inputs = vs })) x h);
+  inputs = λ v x h. ⊎_elim (λ new. subst (λ (t : Running _). AreContents content (block_inputs l t.block) t.inputs) (task_is b vs x new) inputs)
+      (λ old. r.inputs v x old) (get-set s.running w v (Some (record { block = b; inputs = vs })) x h);
+}
+
+found_cases : {A : Type 0} (content : BlockId → A → Type 0) (s : State A) (w : ℕ) (b q : BlockId) (v : A) (h : Held A) (t : Bool) → same_block b q ≡ t
+    → content b v → ((h : Held A) → lookup (same_block q) s.held ≡ Some h → content q h.value)
+    → cond t (Some (record { worker = w; value = v })) (lookup (same_block q) s.held) ≡ Some h → content q h.value
+found_cases {A} content s w b q v h true same is old e =
+    let new : (let x : Held A = record { worker = w; value = v } in x) ≡ h = cc in
+    subst (λ (x : Held A). content q x.value) new (subst (λ (z : BlockId). content z v) (same_exact b q same) is)
+found_cases content s w b q v h false same is old e = old h e
+
+no_task : {A : Type 0} {B : Type 0} (x : Running A) → None ≡ Some x → B
+no_task x h = absurd (cc)
+
+pub contents_value : {A : Type 0} (content : BlockId → A → Type 0) (l : Lineage) (s : State A) (w : ℕ) (b : BlockId) (v : A) (cargo : List (ℕ × Vid))
+    → content b v → HoldsContents content l s → HoldsContents content l (with_value s w b v cargo)
+contents_value content l s w b v cargo is r = record {
+  held = λ q h e. found_cases content s w b q v h (same_block b q) refl is (r.held q) (sym (lookup-insert_entry s.held b q (record { worker = w; value = v })) ∙ e);
+  blocks = λ k x h. ⊎_elim (λ none. no_task x none) (λ old. r.blocks k x old) (get-set s.running w k None x h);
+  inputs = λ k x h. ⊎_elim (λ none. no_task x none) (λ old. r.inputs k x old) (get-set s.running w k None x h);
+}
