@@ -60,3 +60,7 @@ either_way (Err e) p q f h = h q
 pub empty_by : {A : Type 0} (xs : List A) → (0 < length xs → false ≡ true) → xs ≡ []
 empty_by [] h = refl
 empty_by (x ∷ xs) h = let contrary : false ≡ true = h (omega arith) in absurd (cc)
+
+pub on_ok_any : {A E P : Type 0} (r : Result A E) → P → OnOk r P
+on_ok_any (Ok x) p = p
+on_ok_any (Err e) p = tt

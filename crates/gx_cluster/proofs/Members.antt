@@ -1,9 +1,9 @@
 -- Blocks of lists.
-use Rattle.std.proofs.Common.{◌≡◌, ◌∙◌, ◌⊎◌, inl, inr, ⊎_elim, ℕ, Bool, true, false, ◌||◌, cond, List, [], ◌∷◌, ◌++◌, refl, ap, sym, subst}
+use Rattle.std.proofs.Common.{◌≡◌, ◌∙◌, ◌⊎◌, inl, inr, ⊎_elim, ℕ, Bool, true, false, ◌||◌, cond, List, [], ◌∷◌, ◌++◌, get_or, refl, ap, sym, subst}
 use Rattle.std.specs.Prelude.{All, Contains}
-use Rattle.std.proofs.lemmas.List.Elements.{All-contains}
+use Rattle.std.proofs.lemmas.List.Elements.{All-contains, Contains-get_or}
 use Rattle.std.proofs.lemmas.List.Folds.{list_any-append}
-use Rattle.std.proofs.lemmas.Map.Views.{Contains-from_any}
+use Rattle.std.proofs.lemmas.Map.Views.{Contains-from_any, list_any-from_Contains}
 use Rattle.gx_lineage.specs.declared.block_id.BlockId.{BlockId}
 use Rattle.gx_cluster_state.specs.Blocks.{same_block}
 use Rattle.gx_cluster_state.proofs.SameBlocks.{same_block_laws, same_exact}
@@ -54,3 +54,9 @@ has_push_cases bs b q h = ⊎_elim (λ x. inl x) (λ x. inr (same_exact q b x)) 
 -- what holds of each of a list
 pub All-has : (P : BlockId → Type 0) (bs : List BlockId) (q : BlockId) → All P bs → has_block bs q ≡ true → P q
 All-has P bs q a h = All-contains P bs q a (Contains-from_any same_exact q bs h)
+
+pub has_by_contains : (bs : List BlockId) (b : BlockId) → Contains bs b → has_block bs b ≡ true
+has_by_contains bs b h = list_any-from_Contains same_block_laws b bs h
+
+pub All-from_has : (P : BlockId → Type 0) (bs : List BlockId) → ((q : BlockId) → has_block bs q ≡ true → P q) → All P bs
+All-from_has P bs h = λ k d below. h (get_or bs k d) (has_by_contains bs (get_or bs k d) (Contains-get_or bs k d below))

@@ -53,3 +53,11 @@ task_busy s w r h = slice_get-map task_block s.running w ∙ ap (option_map task
 pub held_values : {A : Type 0} (s : State A) (bs : List BlockId) → All (λ b. is_held (shape s) b ≡ true) bs → All (λ b. IsSome (held_value s.held b)) bs
 held_values {A} s bs a = λ k d below.
     is_some-option_map (λ (h : Held A). h.value) (lookup (same_block (get_or bs k d)) s.held) ∙ (sym (is_held-shape s (get_or bs k d)) ∙ a k d below)
+
+pub running-shape : {A : Type 0} (s : State A) → (shape s).running ≡ map task_block s.running
+unfolding shape
+running-shape s = refl
+
+pub shape-spare : {A : Type 0} (s : State A) (n : ℕ) → shape (record s { spare = n }) ≡ shape s
+unfolding shape
+shape-spare s n = refl

@@ -1,18 +1,21 @@
 -- What contracts see of a cluster.
-use Rattle.std.specs.Prelude.{◌≡◌, ℕ, List, [], ◌∷◌, ◌++◌, Option, None, Some, map, option_map, set, slice_get}
-use Rattle.std.specs.List.{AllZip}
+use Rattle.std.specs.Prelude.{◌≡◌, ℕ, List, [], ◌∷◌, ◌++◌, Bool, true, Option, None, Some, length, map, option_map, set, slice_get}
+use Rattle.std.specs.List.{AllZip, flat_map, range_with_len}
 use Rattle.std.specs.BTreeMap.{insert_entry}
 use Rattle.std.specs.Map.{lookup}
 use Rattle.gx_rows.specs.declared.vid.Vid.{Vid}
 use Rattle.gx_lineage.specs.declared.block_id.BlockId.{BlockId}
-use Rattle.gx_lineage.specs.Lineage.{Lineage, IsBlock, block_inputs}
+use Rattle.gx_lineage.specs.Lineage.{Lineage, IsBlock, block_inputs, blocks_at}
+use Rattle.gx_lineage.specs.declared.node_id.NodeId.{NodeId}
 use Rattle.gx_cluster_state.specs.declared.held.Held.{Held}
 use Rattle.gx_cluster_state.specs.declared.log_entry.LogEntry.{LogEntry}
 use Rattle.gx_cluster_state.specs.declared.log_entry.LogEntry.TheVariants as entry
 use Rattle.gx_cluster_state.specs.declared.running.Running.{Running}
 use Rattle.gx_cluster_state.specs.Blocks.{block_cmp, same_block}
-use Rattle.gx_cluster_state.specs.Shapes.{Shape}
+use Rattle.gx_cluster_state.specs.Shapes.{Shape, is_held}
+use Rattle.gx_cluster_state.specs.Nets.{net_of}
 use Rattle.gx_cluster_state.specs.Tasks.{task_block}
+use Rattle.gx_cluster_state.specs.Turns.{Turns}
 
 pub record State (A : Type 0) : Type 0 where
   -- ascending by block
@@ -58,3 +61,20 @@ pub record HoldsContents {A : Type 0} (content : BlockId → A → Type 0) (l : 
   pub held : (b : BlockId) (h : Held A) → lookup (same_block b) s.held ≡ Some h → content b h.value
   pub blocks : (w : ℕ) (r : Running A) → slice_get s.running w ≡ Some (Some r) → IsBlock l r.block
   pub inputs : (w : ℕ) (r : Running A) → slice_get s.running w ≡ Some (Some r) → AreContents content (block_inputs l r.block) r.inputs
+
+-- what turns without events lead to: contents are kept, and so is all that is held
+pub record IsAfterTurns {A : Type 0} (content : BlockId → A → Type 0) (l : Lineage) (freight : BlockId → List (ℕ × Vid))
+    (targets : List BlockId) (old new : State A) : Type 0 where
+  pub contents : HoldsContents content l new
+  pub turns : Turns (net_of l freight) targets (shape new) [] (shape old) []
+  pub held_kept : (b : BlockId) → is_held (shape old) b ≡ true → is_held (shape new) b ≡ true
+  pub spare_kept : new.spare ≡ old.spare
+  pub workers_kept : length new.running ≡ length old.running
+
+-- the nodes of a lineage
+abbrev pub node_ids : List ℕ → List NodeId
+node_ids ns = map (λ n. record { 0 = n }) ns
+
+-- all blocks of a lineage
+abbrev pub lineage_blocks : Lineage → List BlockId
+lineage_blocks l = flat_map (λ n. blocks_at n (range_with_len 0 l.parts)) (node_ids (range_with_len 0 (length l.nodes)))

@@ -1,6 +1,6 @@
 //! Clusters.
 
-ghost use Rattle.std.specs.Prelude.{◌≡◌, ◌≤◌, ◌+◌, ◌-◌, ◌∷◌, [], ◌++◌, ℕ, List, IfOk, OnErr, None, length, option_map, replicate};
+ghost use Rattle.std.specs.Prelude.{◌≡◌, ◌≤◌, ◌+◌, ◌-◌, ◌∷◌, [], ◌++◌, ℕ, List, IfOk, OnErr, None, length, is_none, is_some, option_map, position, replicate};
 ghost use Rattle.gx_cluster_state.specs.Shapes.{is_held, is_running};
 ghost use Rattle.gx_cluster.specs.States.{State, held_value, shape};
 
@@ -104,5 +104,31 @@ impl<T: Drop> Cluster<T> {
         ensures { result ≡ is_running (shape self.now) b }
     {
         self.workers.runs(b)
+    }
+
+    // The first worker that runs nothing.
+    pub(crate) fn first_idle(&self) -> Option<u32>
+        ensures { result ≡ position is_none (shape self.now).running }
+    {
+        self.workers.first_idle()
+    }
+
+    // The first worker that runs a block.
+    pub(crate) fn first_busy(&self) -> Option<u32>
+        ensures first { result ≡ position is_some (shape self.now).running }
+        ensures workers { 1 ≤ length (shape self.now).running }
+    {
+        let _ = self.workers.len();
+        self.workers.first_busy()
+    }
+
+    // Makes room for more entries of the log.
+    pub(crate) fn reserve_spare(&mut self) -> Result<(), NoMemory>
+        ensures spare { IfOk result (λ _. self.new ≡ record self.old { spare = 8 }) }
+        ensures unchanged { OnErr result (self.new ≡ self.old) }
+    {
+        self.log.reserve(8)?;
+        self.spare = 8;
+        Ok(())
     }
 }

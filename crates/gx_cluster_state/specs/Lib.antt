@@ -1,4 +1,5 @@
 pub mod Blocks
+pub mod Measures
 pub mod Nets
 pub mod Runs
 pub mod Shapes
