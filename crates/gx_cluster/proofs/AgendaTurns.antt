@@ -194,3 +194,13 @@ finished_agenda n ts s a new w b cargo busy p r = record {
     idle = was_idle_finished s w b cargo q busy (wanted_missing o.wanted) o.idle;
   }));
 }
+
+-- ---- an agenda without blocks, before all are filed
+pub first_agenda : (n : Net) (ts : List BlockId) (s : Shape) (bs : List BlockId) → ((b : BlockId) → has_block bs b ≡ true → IsOpen n ts s b)
+    → ((b : BlockId) → IsOpen n ts s b → has_block bs b ≡ true) → IsAgenda n ts s (record { ready = []; waiting = [] }) bs
+first_agenda n ts s bs sound complete = record {
+  ready = λ b h. none_listed b h;
+  waiting = λ c b h. none_listed b h;
+  unfiled = sound;
+  complete = λ b o. is_pending (complete b o);
+}

@@ -12,7 +12,7 @@ use Rattle.gx_cluster_state.proofs.Changes.{is_held-finished, is_held-started}
 use Rattle.gx_cluster_state.proofs.WantedBlocks.{turns_then}
 use Rattle.gx_cluster.specs.Agendas.{BlockAgenda, IsAgenda, waiting_for}
 use Rattle.gx_cluster.specs.States.{HoldsContents, IsAfterTurns, State, shape}
-use Rattle.gx_cluster.proofs.AgendaTurns.{TakesWaiting, finished_agenda}
+use Rattle.gx_cluster.proofs.AgendaTurns.{TakesWaiting, finished_agenda, stuck_by_empty}
 use Rattle.gx_cluster.proofs.Members.{or_second}
 
 pub after_none : {A : Type 0} {content : BlockId → A → Type 0} {l : Lineage} (f : BlockId → List (ℕ × Vid)) (ts : List BlockId) (s : State A)
@@ -71,3 +71,9 @@ refiled l dag f ts s new_shape a mid new w b bs same is blocks busy takes r file
     let at_blocks : IsAgenda (net_of l f) ts new_shape mid bs = subst (λ (x : List BlockId). IsAgenda (net_of l f) ts new_shape mid x) (sym blocks) at_shape in
     let at_dag : IsAgenda (net_of dag f) ts new_shape mid bs = subst (λ (x : Lineage). IsAgenda (net_of x f) ts new_shape mid bs) (sym same) at_blocks in
     subst (λ (x : Lineage). IsAgenda (net_of x f) ts new_shape new []) same (files f ts at_dag)
+
+-- if the agenda has no ready block, none is ready
+pub no_start_is_stuck : (n : Net) (ts : List BlockId) (s : Shape) (a : BlockAgenda) → IsAgenda n ts s a []
+    → (position is_none s.running ≡ None) ⊎ (a.ready ≡ []) → (position is_none s.running ≡ None) ⊎ IsStuck n ts s
+no_start_is_stuck n ts s a r (inl h) = inl h
+no_start_is_stuck n ts s a r (inr h) = inr (stuck_by_empty n ts s a r h)

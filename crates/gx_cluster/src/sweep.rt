@@ -26,7 +26,7 @@ impl<T: Drop> Cluster<T> {
     ) -> Result<Vec<BlockId>, NoMemory>
         requires sound { IsSound dag.now }
         requires blocks { All (IsBlock dag.now) targets.now }
-        ensures open { IfOk result (λ bs. (f : Block → List (ℕ × Vid)) (b : Block)
+        ensures found_open { IfOk result (λ bs. (f : Block → List (ℕ × Vid)) (b : Block)
             → has_block bs.items b ≡ true
             → IsOpen (net_of dag.now f) targets.now (shape self.now) b) }
         ensures complete { IfOk result (λ bs. (f : Block → List (ℕ × Vid)) (b : Block)

@@ -66,8 +66,8 @@ sweep-smaller g c =
             (All-has (λ y. block_cmp y k ≡ Less) c.pop_last.new.self.keys x c.in-Some.ensures.all_below there))
         (adds.only q h))
 
-pub returns-clause-open : goal.returns-clause-open
-returns-clause-open g c f b h = (c.sweep.invariant f).found_open b h
+pub returns-clause-found_open : goal.returns-clause-found_open
+returns-clause-found_open g c f b h = (c.sweep.invariant f).found_open b h
 
 pub returns-clause-complete : goal.returns-clause-complete
 returns-clause-complete g c f b o =
