@@ -12,6 +12,8 @@ mod demand;
 mod filing;
 mod sweep;
 mod tasks;
+#[cfg(test)]
+mod tests;
 mod waiting;
 mod work;
 
