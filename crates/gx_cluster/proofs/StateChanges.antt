@@ -1,6 +1,6 @@
 -- A state after a task began or a value came.
-use Rattle.std.proofs.Common.{◌≡◌, ◌∙◌, ◌⊎◌, inl, inr, ⊎_elim, ℕ, Bool, true, false, cond, List, [], ◌∷◌, ◌++◌, Option, Some, None, Ordering, map, set, refl, ap, sym, subst}
-use Rattle.std.specs.Prelude.{option_map, slice_get}
+use Rattle.std.proofs.Common.{◌≡◌, ◌∙◌, ◌⊎◌, inl, inr, ⊎_elim, ℕ, Bool, true, false, cond, List, [], ◌∷◌, ◌++◌, Option, Some, None, Ordering, map, not, set, refl, ap, sym, subst}
+use Rattle.std.specs.Prelude.{◌==◌, ◌-◌, filter, option_map, slice_get}
 use Rattle.std.specs.List.{AllZip}
 use Rattle.std.specs.Map.{lookup}
 use Rattle.std.specs.BTreeMap.{insert_entry}
@@ -9,16 +9,18 @@ use Rattle.std.specs.declared.cmp.Ordering.TheVariants.{Less, Equal, Greater}
 use Rattle.std.proofs.lemmas.List.{map-set}
 use Rattle.gx_rows.specs.declared.vid.Vid.{Vid}
 use Rattle.gx_lineage.specs.declared.block_id.BlockId.{BlockId}
+use Rattle.gx_lineage.specs.declared.node_id.NodeId.{NodeId}
+use Rattle.gx_cluster_state.specs.declared.log_entry.LogEntry.{LogEntry}
 use Rattle.gx_lineage.specs.Lineage.{Lineage, IsBlock, block_inputs}
 use Rattle.gx_cluster_state.specs.declared.held.Held.{Held}
 use Rattle.gx_cluster_state.specs.declared.running.Running.{Running}
 use Rattle.gx_cluster_state.specs.declared.log_entry.LogEntry.TheVariants as entry
 use Rattle.gx_cluster_state.specs.Blocks.{block_cmp, same_block}
-use Rattle.gx_cluster_state.specs.Shapes.{Shape, finished, started}
+use Rattle.gx_cluster_state.specs.Shapes.{Shape, finished, released, started}
 use Rattle.gx_cluster_state.specs.Tasks.{task_block}
 use Rattle.gx_cluster_state.proofs.Positions.{get-set}
 use Rattle.gx_cluster_state.proofs.SameBlocks.{lookup-insert_entry, same_exact}
-use Rattle.gx_cluster.specs.States.{AreContents, HoldsContents, State, held_value, shape, with_task, with_value}
+use Rattle.gx_cluster.specs.States.{AreContents, HoldsContents, State, held_value, shape, with_release, with_task, with_value}
 
 pub shape-with_task : {A : Type 0} (s : State A) (w : ℕ) (b : BlockId) (vs : List A) → shape (with_task s w b vs) ≡ started (shape s) w b
 unfolding shape started
@@ -103,3 +105,28 @@ contents_value content l s w b v cargo is r = record {
   blocks = λ k x h. ⊎_elim (λ none. no_task x none) (λ old. r.blocks k x old) (get-set s.running w k None x h);
   inputs = λ k x h. ⊎_elim (λ none. no_task x none) (λ old. r.inputs k x old) (get-set s.running w k None x h);
 }
+
+-- ---- a release
+filter_shape : {A : Type 0} (t : Bool) (e : BlockId × Held A) (xs : List (BlockId × Held A)) (ys : List (BlockId × ℕ)) → map (λ x. (x.0, x.1.worker)) xs ≡ ys
+    → map (λ x. (x.0, x.1.worker)) (cond t (e ∷ xs) xs) ≡ cond t ((e.0, e.1.worker) ∷ ys) ys
+filter_shape true e xs ys h = ap (λ (zs : List (BlockId × ℕ)). (e.0, e.1.worker) ∷ zs) h
+filter_shape false e xs ys h = h
+
+map_filter : {A : Type 0} (n : NodeId) (es : List (BlockId × Held A))
+    → map {B = BlockId × ℕ} (λ x. (x.0, x.1.worker)) (filter (λ e. not (e.0.node.0 == n.0)) es) ≡ filter (λ e. not (e.0.node.0 == n.0)) (map {B = BlockId × ℕ} (λ x. (x.0, x.1.worker)) es)
+map_filter n [] = refl
+map_filter n (e ∷ es) = filter_shape (not (e.0.node.0 == n.0)) e (filter (λ x. not (x.0.node.0 == n.0)) es) _ (map_filter n es)
+
+pub shape-with_release : {A : Type 0} (s : State A) (n : NodeId) → shape (with_release s n) ≡ released (shape s) n
+unfolding shape released
+shape-with_release s n =
+    ap (λ (z : List (BlockId × ℕ)). let x : Shape = record { held = z; running = map task_block s.running; log = s.log ++ entry.Released n ∷ [] } in x)
+    (map_filter n s.held)
+
+pub state_released : {A : Type 0} (s new : State A) (n : NodeId) → new.held ≡ filter (λ e. not (e.0.node.0 == n.0)) s.held → new.running ≡ s.running
+    → new.log ≡ s.log ++ entry.Released n ∷ [] → new.spare ≡ s.spare - 1 → new ≡ with_release s n
+state_released {A} s new n h r l p =
+    ap (λ (x : List (BlockId × Held A)). let t : State A = record { held = x; running = new.running; log = new.log; spare = new.spare } in t) h
+    ∙ (ap (λ (x : List (Option (Running A))). let t : State A = record { held = filter (λ e. not (e.0.node.0 == n.0)) s.held; running = x; log = new.log; spare = new.spare } in t) r
+    ∙ (ap (λ (x : List LogEntry). let t : State A = record { held = filter (λ e. not (e.0.node.0 == n.0)) s.held; running = s.running; log = x; spare = new.spare } in t) l
+    ∙ ap (λ (x : ℕ). let t : State A = record { held = filter (λ e. not (e.0.node.0 == n.0)) s.held; running = s.running; log = s.log ++ entry.Released n ∷ []; spare = x } in t) p))

@@ -1,5 +1,5 @@
 -- What contracts see of a cluster.
-use Rattle.std.specs.Prelude.{◌≡◌, ℕ, List, [], ◌∷◌, ◌++◌, Bool, true, Option, None, Some, length, map, option_map, set, slice_get}
+use Rattle.std.specs.Prelude.{◌≡◌, ◌==◌, ◌-◌, ℕ, List, [], ◌∷◌, ◌++◌, Bool, true, Option, None, Some, filter, length, map, not, option_map, set, slice_get}
 use Rattle.std.specs.List.{AllZip, flat_map, range_with_len}
 use Rattle.std.specs.BTreeMap.{insert_entry}
 use Rattle.std.specs.Map.{lookup}
@@ -50,6 +50,15 @@ with_value s w b v cargo = record {
   running = set s.running w None;
   log = s.log ++ entry.Finished w b cargo ∷ [];
   spare = s.spare;
+}
+
+-- all blocks of a node are gone
+abbrev pub with_release : {A : Type 0} → State A → NodeId → State A
+with_release s n = record {
+  held = filter (λ e. not (e.0.node.0 == n.0)) s.held;
+  running = s.running;
+  log = s.log ++ entry.Released n ∷ [];
+  spare = s.spare - 1;
 }
 
 -- the values are contents of the blocks, one each

@@ -1,8 +1,8 @@
 //! Clusters.
 
 ghost use Rattle.std.specs.Prelude.{◌≡◌, ◌≤◌, ◌+◌, ◌-◌, ◌∷◌, [], ◌++◌, ℕ, List, IfOk, OnErr, None, length, is_none, is_some, option_map, position, replicate};
-ghost use Rattle.gx_cluster_state.specs.Shapes.{is_held, is_running};
-ghost use Rattle.gx_cluster.specs.States.{State, held_value, shape};
+ghost use Rattle.gx_cluster_state.specs.Shapes.{is_held, is_running, released};
+ghost use Rattle.gx_cluster.specs.States.{State, held_value, shape, with_release};
 
 use gx_cluster_state::{Held, LogEntry, Workers};
 use gx_lineage::{BlockId, NodeId};
@@ -66,6 +66,19 @@ impl<T: Drop> Cluster<T> {
     {
         self.workers = Workers::idle(self.alloc, workers)?;
         Ok(())
+    }
+
+    /// Drops all held blocks of a node. It takes no memory, and one entry of the room of the log.
+    pub fn release(&mut self, node: NodeId)
+        requires { 1 ≤ self.old.spare }
+        ensures state { self.new ≡ with_release self.old node }
+        ensures released { shape self.new ≡ released (shape self.old) node }
+    {
+        self.held.retain(|b, _| b.node.0 != node.0);
+        let Ok(()) = self.log.push(LogEntry::Released { node }) else {
+            unreachable!()
+        };
+        self.spare -= 1;
     }
 
     /// The value of a block, borrowed, if a worker holds it.
