@@ -17,7 +17,7 @@ or_swap true false c = refl
 or_swap false b c = refl
 
 -- one place of a list is overwritten
-list_any-set : {X : Type 0} (p : X → Bool) (xs : List X) (i : ℕ) (x y : X) → slice_get xs i ≡ Some x → p x ≡ false
+pub list_any-set : {X : Type 0} (p : X → Bool) (xs : List X) (i : ℕ) (x y : X) → slice_get xs i ≡ Some x → p x ≡ false
     → list_any p (set xs i y) ≡ (p y || list_any p xs)
 list_any-set p [] i x y h f = cc
 list_any-set p (z ∷ zs) zero x y h f =

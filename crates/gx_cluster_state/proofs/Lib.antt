@@ -4,5 +4,6 @@ pub mod OneRun
 pub mod Positions
 pub mod Progress
 pub mod SameBlocks
+pub mod TurnBounds
 pub mod TurnsLeft
 pub mod WantedBlocks

@@ -12,15 +12,15 @@ use Rattle.gx_cluster_state.proofs.Changes.{is_held-finished, is_held-started, i
 use Rattle.gx_cluster_state.proofs.SameBlocks.{same_block_laws, same_exact}
 
 -- ---- sums
-sum_by-le : (f g : BlockId → ℕ) (bs : List BlockId) → ((b : BlockId) → f b ≤ g b) → sum_by f bs ≤ sum_by g bs
+pub sum_by-le : (f g : BlockId → ℕ) (bs : List BlockId) → ((b : BlockId) → f b ≤ g b) → sum_by f bs ≤ sum_by g bs
 sum_by-le f g [] h = omega arith
 sum_by-le f g (b ∷ bs) h = rw (sum_by-cons f b bs, sum_by-cons g b bs) (let first = h b in let rest = sum_by-le f g bs h in omega (arith, first, rest))
 
-or_cases : (a b : Bool) → (a || b) ≡ true → (a ≡ true) ⊎ (b ≡ true)
+pub or_cases : (a b : Bool) → (a || b) ≡ true → (a ≡ true) ⊎ (b ≡ true)
 or_cases true b h = inl refl
 or_cases false b h = inr h
 
-sum_by-lower : (f g : BlockId → ℕ) (bs : List BlockId) (b : BlockId) → ((q : BlockId) → f q ≤ g q) → f b + 2 ≤ g b → list_any (same_block b) bs ≡ true
+pub sum_by-lower : (f g : BlockId → ℕ) (bs : List BlockId) (b : BlockId) → ((q : BlockId) → f q ≤ g q) → f b + 2 ≤ g b → list_any (same_block b) bs ≡ true
     → sum_by f bs + 2 ≤ sum_by g bs
 sum_by-lower f g [] b h lower there = let contrary : false ≡ true = there in absurd (cc)
 sum_by-lower f g (x ∷ xs) b h lower there =
@@ -30,7 +30,7 @@ sum_by-lower f g (x ∷ xs) b h lower there =
         (λ later. let first = h x in let rest = sum_by-lower f g xs b h lower later in omega (arith, first, rest))
         (or_cases (same_block b x) (list_any (same_block b) xs) there))
 
-count_by-set : (xs : List (Option BlockId)) (w : ℕ) (x y : Option BlockId) → slice_get xs w ≡ Some x
+pub count_by-set : (xs : List (Option BlockId)) (w : ℕ) (x y : Option BlockId) → slice_get xs w ≡ Some x
     → count_by is_some (set xs w y) + cond (is_some x) 1 0 ≡ count_by is_some xs + cond (is_some y) 1 0
 count_by-set [] w x y h = absurd (cc)
 count_by-set (z ∷ zs) zero x y h =

@@ -23,7 +23,7 @@ pub use cargo::Cargo;
 pub use event::Event;
 pub use events::Events;
 pub use held::Held;
-pub use laws::{commands_have_one_run, runs_stand_under_larger_nets};
+pub use laws::{commands_have_one_run, runs_stand_under_larger_nets, turns_are_bounded};
 pub use log_entry::LogEntry;
 pub use running::Running;
 pub use shared::Shared;
