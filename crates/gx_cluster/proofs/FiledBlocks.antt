@@ -1,12 +1,12 @@
 -- A pending block is filed.
-use Rattle.std.proofs.Common.{◌≡◌, ◌∙◌, ◌⊎◌, inl, inr, ⊎_elim, ℕ, Bool, true, false, ◌||◌, cond, List, [], ◌∷◌, ◌++◌, refl, ap, sym, subst}
+use Rattle.std.proofs.Common.{◌≡◌, ◌∙◌, ⊎_elim, Bool, true, false, cond, List, [], ◌∷◌, ◌++◌, refl, ap, sym, subst}
 use Rattle.std.specs.Prelude.{All, Contains}
 use Rattle.gx_lineage.specs.declared.block_id.BlockId.{BlockId}
 use Rattle.gx_cluster_state.specs.Blocks.{same_block}
 use Rattle.gx_cluster_state.specs.Nets.{Net, IsReady}
 use Rattle.gx_cluster_state.specs.Shapes.{Shape, is_held}
 use Rattle.gx_cluster_state.proofs.SameBlocks.{same_exact}
-use Rattle.gx_cluster.specs.Agendas.{BlockAgenda, IsAgenda, IsListed, IsOpen, Waits, has_block, is_pending, is_ready, is_waiting, waiting_for}
+use Rattle.gx_cluster.specs.Agendas.{BlockAgenda, IsAgenda, IsListed, Waits, has_block, is_pending, is_ready, is_waiting, waiting_for}
 use Rattle.gx_cluster.proofs.Members.{cond_or, has_push_cases, has_push_kept, has_push_last, or_cases, or_first, or_second, same_itself, same_sym}
 
 -- ---- as ready
@@ -66,8 +66,8 @@ waiting_listed a new c b q rest kept updates (is_waiting k h) =
 waiting_listed a new c b q rest kept updates (is_pending h) =
     ⊎_elim
     (λ same. is_waiting c
-        (ap (λ bs. has_block bs q) (updates c ∙ ap (λ (t : Bool). cond t (waiting_for a.waiting c ++ b ∷ []) (waiting_for a.waiting c)) (same_itself c))
-        ∙ subst (λ (x : BlockId). has_block (waiting_for a.waiting c ++ b ∷ []) x ≡ true) (sym (same_exact q b same)) (has_push_last (waiting_for a.waiting c) b)))
+    (ap (λ bs. has_block bs q) (updates c ∙ ap (λ (t : Bool). cond t (waiting_for a.waiting c ++ b ∷ []) (waiting_for a.waiting c)) (same_itself c))
+    ∙ subst (λ (x : BlockId). has_block (waiting_for a.waiting c ++ b ∷ []) x ≡ true) (sym (same_exact q b same)) (has_push_last (waiting_for a.waiting c) b)))
     (λ later. is_pending later)
     (or_cases (same_block q b) (has_block rest q) h)
 

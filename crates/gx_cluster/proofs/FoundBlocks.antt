@@ -1,6 +1,6 @@
 -- The search for wanted blocks, block by block.
-use Rattle.std.proofs.Common.{◌≡◌, ◌∙◌, ◌⊎◌, inl, inr, ⊎_elim, ℕ, ◌+◌, ◌*◌, ◌<◌, ◌≤◌, Bool, true, false, ◌||◌, cond, List, [], ◌∷◌, ◌++◌, Ordering, refl, ap, sym, subst, arith}
-use Rattle.std.specs.Prelude.{All, Contains, max}
+use Rattle.std.proofs.Common.{◌≡◌, ◌∙◌, ◌⊎◌, inl, inr, ⊎_elim, ℕ, ◌+◌, ◌*◌, ◌<◌, ◌≤◌, Bool, true, false, cond, List, [], ◌∷◌, ◌++◌, Ordering, refl, ap, sym, subst, arith}
+use Rattle.std.specs.Prelude.{Contains, max}
 use Rattle.std.specs.Ordering.{nat_cmp, ordering_then}
 use Rattle.std.specs.declared.cmp.Ordering.TheVariants.{Less, Equal, Greater}
 use Rattle.std.proofs.lemmas.Bool.Decides.{nat_tests}
@@ -9,7 +9,7 @@ use Rattle.gx_lineage.specs.declared.block_id.BlockId.{BlockId}
 use Rattle.gx_lineage.specs.Lineage.{Lineage, IsBlock, IsSound, block_inputs}
 use Rattle.gx_cluster_state.specs.Blocks.{block_cmp, same_block}
 use Rattle.gx_cluster_state.specs.Nets.{Net, Wanted, target, input}
-use Rattle.gx_cluster_state.specs.Shapes.{Shape, is_held, is_running}
+use Rattle.gx_cluster_state.specs.Shapes.{Shape, is_running}
 use Rattle.gx_cluster_state.proofs.SameBlocks.{same_exact}
 use Rattle.gx_cluster.specs.Agendas.{IsOpen, has_block}
 use Rattle.gx_cluster.specs.Sweeps.{AddsMissing, IsAddedFrom, IsReached, IsSweep, block_height, block_number, in_front, is_missing, runs, was_found, was_there}

@@ -1,9 +1,9 @@
 -- All blocks of a lineage are listed.
-use Rattle.std.proofs.Common.{◌≡◌, ◌∙◌, ℕ, ◌+◌, ◌<◌, suc, zero, Bool, true, List, [], ◌∷◌, ◌++◌, get_or, length, map, refl, ap, sym, subst, arith}
+use Rattle.std.proofs.Common.{◌≡◌, ◌∙◌, ℕ, ◌<◌, suc, zero, true, List, [], ◌∷◌, ◌++◌, get_or, length, map, ap, sym, subst, arith}
 use Rattle.std.specs.Prelude.{Contains}
 use Rattle.std.specs.List.{flat_map, range_with_len}
 use Rattle.std.proofs.lemmas.List.{get_or-map, length-map}
-use Rattle.std.proofs.lemmas.List.Elements.{Contains-append_left, Contains-append_right, Contains-get_or}
+use Rattle.std.proofs.lemmas.List.Elements.{Contains-append_left, Contains-append_right}
 use Rattle.std.proofs.lemmas.List.FromFn.{get_or-range_with_len, length-range_with_len}
 use Rattle.gx_lineage.specs.declared.block_id.BlockId.{BlockId}
 use Rattle.gx_lineage.specs.declared.node_id.NodeId.{NodeId}
@@ -37,5 +37,5 @@ pub block_is_listed : (l : Lineage) (b : BlockId) → IsBlock l b → has_block 
 block_is_listed l b is =
     has_by_contains (lineage_blocks l) b
     (contains_flat (λ n. blocks_at n (range_with_len 0 l.parts)) (node_ids (range_with_len 0 (length l.nodes))) b.node b
-        (contains_map (λ n. let x : NodeId = record { 0 = n } in x) (range_with_len 0 (length l.nodes)) b.node.0 (contains_range (length l.nodes) b.node.0 is.node))
-        (contains_map (λ p. let x : BlockId = record { node = b.node; part = p } in x) (range_with_len 0 l.parts) b.part (contains_range l.parts b.part is.part)))
+    (contains_map (λ n. let x : NodeId = record { 0 = n } in x) (range_with_len 0 (length l.nodes)) b.node.0 (contains_range (length l.nodes) b.node.0 is.node))
+    (contains_map (λ p. let x : BlockId = record { node = b.node; part = p } in x) (range_with_len 0 l.parts) b.part (contains_range l.parts b.part is.part)))

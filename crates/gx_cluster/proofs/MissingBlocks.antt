@@ -1,5 +1,5 @@
 -- Which of some blocks are not held, block by block.
-use Rattle.std.proofs.Common.{◌≡◌, ◌∙◌, ◌⊎◌, inl, inr, ⊎_elim, ℕ, ◌+◌, ◌<◌, ◌≤◌, Bool, true, false, cond, List, [], ◌∷◌, ◌++◌, length, get_or, take, Option, Some, None, refl, ap, sym, subst, arith}
+use Rattle.std.proofs.Common.{◌≡◌, ◌∙◌, ◌⊎◌, ⊎_elim, ℕ, ◌+◌, ◌<◌, Bool, true, false, cond, List, [], ◌∷◌, length, get_or, take, Option, Some, None, refl, ap, sym, subst, arith}
 use Rattle.std.specs.Prelude.{All, Contains, IfNone, IfSome}
 use Rattle.std.proofs.lemmas.List.{take_more}
 use Rattle.std.proofs.lemmas.List.Elements.{All-more, All-nil, Contains-append_left, Contains-push, Contains-push_cases}
@@ -87,7 +87,7 @@ adds_missing-more s bs old new more i d below missing updates r = record {
   kept = λ b h. updates b ∙ cond_or (same_block (get_or bs i d) b) (has_block new b) (r.kept b h);
   added = λ b c f. updates b ∙ ⊎_elim (λ earlier. cond_or (same_block (get_or bs i d) b) (has_block new b) (r.added b earlier f))
       (λ same. ap (λ (t : Bool). cond t true (has_block new b))
-          (subst (λ (x : BlockId). same_block (get_or bs i d) x ≡ true) same (same_block_laws.refl (get_or bs i d))))
+      (subst (λ (x : BlockId). same_block (get_or bs i d) x ≡ true) same (same_block_laws.refl (get_or bs i d))))
       (contains_cases bs i d b below c);
   only = λ b h. only_more s bs old new i d b (same_block (get_or bs i d) b) below missing r refl (sym (updates b) ∙ h);
 }

@@ -1,5 +1,5 @@
 -- Look-ups in the shape of a state.
-use Rattle.std.proofs.Common.{◌≡◌, ◌∙◌, ℕ, ◌<◌, List, [], ◌∷◌, Bool, true, Option, Some, None, get_or, length, map, refl, ap, sym}
+use Rattle.std.proofs.Common.{◌≡◌, ◌∙◌, ℕ, ◌<◌, List, true, Option, Some, None, get_or, length, map, refl, ap, sym}
 use Rattle.std.specs.Prelude.{All, IsSome, is_some, option_map, slice_get}
 use Rattle.std.specs.List.{list_any}
 use Rattle.std.specs.Map.{lookup}

@@ -1,7 +1,6 @@
 -- A state after a task began or a value came.
-use Rattle.std.proofs.Common.{◌≡◌, ◌∙◌, ◌⊎◌, inl, inr, ⊎_elim, ℕ, Bool, true, false, cond, List, [], ◌∷◌, ◌++◌, Option, Some, None, Ordering, map, not, set, refl, ap, sym, subst}
-use Rattle.std.specs.Prelude.{◌==◌, ◌-◌, filter, option_map, slice_get}
-use Rattle.std.specs.List.{AllZip}
+use Rattle.std.proofs.Common.{◌≡◌, ◌∙◌, ⊎_elim, ℕ, Bool, true, false, cond, List, [], ◌∷◌, ◌++◌, Option, Some, None, Ordering, map, not, refl, ap, sym, subst}
+use Rattle.std.specs.Prelude.{◌==◌, ◌-◌, filter, option_map}
 use Rattle.std.specs.Map.{lookup}
 use Rattle.std.specs.BTreeMap.{insert_entry}
 use Rattle.std.specs.Ordering.{match_ordering}
@@ -26,14 +25,14 @@ pub shape-with_task : {A : Type 0} (s : State A) (w : ℕ) (b : BlockId) (vs : L
 unfolding shape started
 shape-with_task {A} s w b vs =
     ap (λ (tasks : List (Option BlockId)).
-        let x : Shape = record { held = map (λ e. (e.0, e.1.worker)) s.held; running = tasks; log = s.log ++ entry.Started w b ∷ [] } in x)
+    let x : Shape = record { held = map (λ e. (e.0, e.1.worker)) s.held; running = tasks; log = s.log ++ entry.Started w b ∷ [] } in x)
     (map-set task_block s.running w (Some (record { block = b; inputs = vs })))
 
 map_insert_head : {A : Type 0} (o : Ordering) (e : BlockId × Held A) (es : List (BlockId × Held A)) (b : BlockId) (h : Held A)
     → map (λ x. (x.0, x.1.worker)) (insert_entry block_cmp es b h) ≡ insert_entry block_cmp (map (λ x. (x.0, x.1.worker)) es) b h.worker
     → map (λ x. (x.0, x.1.worker)) (match_ordering o ((b, h) ∷ e ∷ es) ((e.0, h) ∷ es) (e ∷ insert_entry block_cmp es b h))
-        ≡ match_ordering o ((b, h.worker) ∷ (e.0, e.1.worker) ∷ map (λ x. (x.0, x.1.worker)) es) ((e.0, h.worker) ∷ map (λ x. (x.0, x.1.worker)) es)
-            ((e.0, e.1.worker) ∷ insert_entry block_cmp (map (λ x. (x.0, x.1.worker)) es) b h.worker)
+    ≡ match_ordering o ((b, h.worker) ∷ (e.0, e.1.worker) ∷ map (λ x. (x.0, x.1.worker)) es) ((e.0, h.worker) ∷ map (λ x. (x.0, x.1.worker)) es)
+    ((e.0, e.1.worker) ∷ insert_entry block_cmp (map (λ x. (x.0, x.1.worker)) es) b h.worker)
 map_insert_head Less e es b h ih = refl
 map_insert_head Equal e es b h ih = refl
 map_insert_head Greater e es b h ih = ap (λ (xs : List (BlockId × ℕ)). (e.0, e.1.worker) ∷ xs) ih

@@ -1,13 +1,13 @@
 -- What one turn leads to, and one turn after others.
-use Rattle.std.proofs.Common.{◌≡◌, ◌∙◌, ◌⊎◌, inl, inr, ⊎_elim, ℕ, ◌<◌, Bool, true, false, ◌||◌, List, [], ◌∷◌, Option, Some, None, length, refl, ap, sym, subst}
-use Rattle.std.specs.Prelude.{All, Contains, is_none, is_some, position, slice_get}
+use Rattle.std.proofs.Common.{◌≡◌, ◌∙◌, ◌⊎◌, inl, inr, ℕ, false, List, [], Some, None, length, refl, ap, sym, subst}
+use Rattle.std.specs.Prelude.{is_none, is_some, position, slice_get}
 use Rattle.gx_rows.specs.declared.vid.Vid.{Vid}
 use Rattle.gx_lineage.specs.declared.block_id.BlockId.{BlockId}
-use Rattle.gx_lineage.specs.Lineage.{Lineage, IsBlock}
+use Rattle.gx_lineage.specs.Lineage.{Lineage}
 use Rattle.gx_cluster_state.specs.Blocks.{same_block}
 use Rattle.gx_cluster_state.specs.Nets.{Net, IsLeastReady, IsStuck, net_of}
 use Rattle.gx_cluster_state.specs.Shapes.{Shape, all_held, finished, is_held, started}
-use Rattle.gx_cluster_state.specs.Turns.{Turns, ended, taken}
+use Rattle.gx_cluster_state.specs.Turns.{ended, taken}
 use Rattle.gx_cluster_state.proofs.Changes.{is_held-finished, is_held-started}
 use Rattle.gx_cluster_state.proofs.WantedBlocks.{turns_then}
 use Rattle.gx_cluster.specs.Agendas.{BlockAgenda, IsAgenda, waiting_for}
@@ -67,7 +67,7 @@ pub refiled : (l dag : Lineage) (f : BlockId → List (ℕ × Vid)) (ts : List B
 refiled l dag f ts s new_shape a mid new w b bs same is blocks busy takes r files =
     let before : IsAgenda (net_of l f) ts (finished s w b (f b)) mid (waiting_for a.waiting b) = finished_agenda (net_of l f) ts s a mid w b (f b) busy takes r in
     let at_shape : IsAgenda (net_of l f) ts new_shape mid (waiting_for a.waiting b) =
-        subst (λ (x : Shape). IsAgenda (net_of l f) ts x mid (waiting_for a.waiting b)) (sym is) before in
+    subst (λ (x : Shape). IsAgenda (net_of l f) ts x mid (waiting_for a.waiting b)) (sym is) before in
     let at_blocks : IsAgenda (net_of l f) ts new_shape mid bs = subst (λ (x : List BlockId). IsAgenda (net_of l f) ts new_shape mid x) (sym blocks) at_shape in
     let at_dag : IsAgenda (net_of dag f) ts new_shape mid bs = subst (λ (x : Lineage). IsAgenda (net_of x f) ts new_shape mid bs) (sym same) at_blocks in
     subst (λ (x : Lineage). IsAgenda (net_of x f) ts new_shape new []) same (files f ts at_dag)

@@ -1,5 +1,5 @@
 -- The wanted blocks that do not run: those that are ready, and those that wait for an input.
-use Rattle.std.specs.Prelude.{◌≡◌, ◌⊎◌, ◌<◌, ℕ, Bool, true, false, List, [], Contains, cond, unwrap_or}
+use Rattle.std.specs.Prelude.{◌≡◌, Bool, true, false, List, [], Contains, cond, unwrap_or}
 use Rattle.std.specs.List.{list_any}
 use Rattle.std.specs.Map.{lookup}
 use Rattle.std.specs.Ordering.{is_gt}

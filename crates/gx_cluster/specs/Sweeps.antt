@@ -1,5 +1,5 @@
 -- The search for the wanted blocks that do not run, from the targets on.
-use Rattle.std.specs.Prelude.{◌≡◌, ℕ, ◌+◌, ◌*◌, Bool, true, false, List, [], ◌∷◌, Contains, max}
+use Rattle.std.specs.Prelude.{◌≡◌, ℕ, ◌+◌, ◌*◌, true, false, List, [], ◌∷◌, Contains, max}
 use Rattle.gx_lineage.specs.declared.block_id.BlockId.{BlockId}
 use Rattle.gx_cluster_state.specs.Nets.{Net, Wanted}
 use Rattle.gx_cluster_state.specs.Shapes.{Shape, is_held, is_running}

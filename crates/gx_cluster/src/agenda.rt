@@ -64,7 +64,7 @@ impl Agenda {
         ensures ready_kept { OnOk result (self.new.ready ≡ self.old.ready) }
         ensures waiting { OnOk result ((c : Block) → waiting_for self.new.waiting c
             ≡ cond (same_block input c) (waiting_for self.old.waiting input ++ b ∷ [])
-                (waiting_for self.old.waiting c)) }
+            (waiting_for self.old.waiting c)) }
     {
         self.waiting.add(input, b)
     }

@@ -48,11 +48,7 @@ impl<T: Drop> Cluster<T> {
     }
 
     // Adds to `front` those of `blocks` that are not held.
-    fn add_missing(
-        &self,
-        front: &mut BTreeSet<BlockId>,
-        blocks: &[BlockId],
-    ) -> Result<(), NoMemory>
+    fn add_missing(&self, front: &mut BTreeSet<BlockId>, blocks: &[BlockId]) -> Result<(), NoMemory>
         ensures { OnOk result
             (AddsMissing (shape self.now) blocks.now front.old.keys front.new.keys) }
     {

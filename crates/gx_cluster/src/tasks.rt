@@ -55,7 +55,11 @@ impl<T: Drop> Cluster<T> {
         self.log.reserve(self.spare + 1)?;
         let inputs = capture(self.alloc, &self.held, inputs)?;
         self.workers.set(w, Some(Running { block: b, inputs }));
-        let Ok(()) = self.log.push(LogEntry::Started { worker: w, block: b }) else {
+        let Ok(()) = self.log.push(LogEntry::Started {
+            worker: w,
+            block: b,
+        })
+        else {
             unreachable!()
         };
         Ok(())
@@ -81,7 +85,8 @@ impl<T: Drop> Cluster<T> {
             worker: w,
             block,
             cargo,
-        }) else {
+        })
+        else {
             unreachable!()
         };
         Ok(())
@@ -112,12 +117,7 @@ impl<T: Drop> Cluster<T> {
     // Worker `w` starts `b`.
     //
     // On `NoMemory` the cluster is unchanged.
-    pub(crate) fn start<W: Work<T>>(
-        &mut self,
-        work: &W,
-        w: u32,
-        b: BlockId,
-    ) -> Result<(), NoMemory>
+    pub(crate) fn start<W: Work<T>>(&mut self, work: &W, w: u32, b: BlockId) -> Result<(), NoMemory>
         requires contents { HoldsContents (W.content work.now) (W.lineage work.now) self.old }
         requires block { IsBlock (W.lineage work.now) b }
         requires idle { slice_get (shape self.old).running w ≡ Some None }

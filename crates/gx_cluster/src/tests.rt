@@ -108,14 +108,23 @@ fn two_workers_share_a_node(rt: HostRuntime) -> Result<(), Fail> {
     let mut dag = Dag::new(rt.alloc(), 2);
     add(&rt, &mut dag, &[])?;
     let cluster = run(&rt, rt.alloc(), dag, 2)?;
-    assert!(rt; has_turns(&cluster, &[
-        ('s', 0, 0, 0),
-        ('s', 1, 0, 1),
-        ('f', 0, 0, 0),
-        ('f', 1, 0, 1),
-    ]));
+    assert!(rt;
+        has_turns(
+            &cluster,
+            &[
+                ('s', 0, 0, 0),
+                ('s', 1, 0, 1),
+                ('f', 0, 0, 0),
+                ('f', 1, 0, 1),
+            ]
+        )
+    );
     let node = NodeId(0);
-    assert!(rt; cluster.take(BlockId { node, part: 1 }).is_some_and(|value| **value == 1));
+    assert!(rt;
+        cluster
+            .take(BlockId { node, part: 1 })
+            .is_some_and(|value| **value == 1)
+    );
     assert!(rt; cluster.take(BlockId { node, part: 2 }).is_none());
     assert_eq!(rt; cluster.spare(), 8);
     Ok(())
@@ -125,12 +134,29 @@ fn two_workers_share_a_node(rt: HostRuntime) -> Result<(), Fail> {
 fn one_worker_takes_blocks_in_order(rt: HostRuntime) -> Result<(), Fail> {
     let dag = diamond(&rt, rt.alloc())?;
     let cluster = run(&rt, rt.alloc(), dag, 1)?;
-    assert!(rt; has_turns(&cluster, &[
-        ('s', 0, 0, 0), ('f', 0, 0, 0), ('s', 0, 0, 1), ('f', 0, 0, 1),
-        ('s', 0, 1, 0), ('f', 0, 1, 0), ('s', 0, 1, 1), ('f', 0, 1, 1),
-        ('s', 0, 2, 0), ('f', 0, 2, 0), ('s', 0, 2, 1), ('f', 0, 2, 1),
-        ('s', 0, 3, 0), ('f', 0, 3, 0), ('s', 0, 3, 1), ('f', 0, 3, 1),
-    ]));
+    assert!(rt;
+        has_turns(
+            &cluster,
+            &[
+                ('s', 0, 0, 0),
+                ('f', 0, 0, 0),
+                ('s', 0, 0, 1),
+                ('f', 0, 0, 1),
+                ('s', 0, 1, 0),
+                ('f', 0, 1, 0),
+                ('s', 0, 1, 1),
+                ('f', 0, 1, 1),
+                ('s', 0, 2, 0),
+                ('f', 0, 2, 0),
+                ('s', 0, 2, 1),
+                ('f', 0, 2, 1),
+                ('s', 0, 3, 0),
+                ('f', 0, 3, 0),
+                ('s', 0, 3, 1),
+                ('f', 0, 3, 1),
+            ]
+        )
+    );
     Ok(())
 }
 
@@ -138,12 +164,29 @@ fn one_worker_takes_blocks_in_order(rt: HostRuntime) -> Result<(), Fail> {
 fn two_workers_share_a_diamond(rt: HostRuntime) -> Result<(), Fail> {
     let dag = diamond(&rt, rt.alloc())?;
     let cluster = run(&rt, rt.alloc(), dag, 2)?;
-    assert!(rt; has_turns(&cluster, &[
-        ('s', 0, 0, 0), ('s', 1, 0, 1), ('f', 0, 0, 0), ('s', 0, 1, 0),
-        ('f', 0, 1, 0), ('f', 1, 0, 1), ('s', 0, 1, 1), ('s', 1, 2, 0),
-        ('f', 0, 1, 1), ('s', 0, 2, 1), ('f', 0, 2, 1), ('f', 1, 2, 0),
-        ('s', 0, 3, 0), ('s', 1, 3, 1), ('f', 0, 3, 0), ('f', 1, 3, 1),
-    ]));
+    assert!(rt;
+        has_turns(
+            &cluster,
+            &[
+                ('s', 0, 0, 0),
+                ('s', 1, 0, 1),
+                ('f', 0, 0, 0),
+                ('s', 0, 1, 0),
+                ('f', 0, 1, 0),
+                ('f', 1, 0, 1),
+                ('s', 0, 1, 1),
+                ('s', 1, 2, 0),
+                ('f', 0, 1, 1),
+                ('s', 0, 2, 1),
+                ('f', 0, 2, 1),
+                ('f', 1, 2, 0),
+                ('s', 0, 3, 0),
+                ('s', 1, 3, 1),
+                ('f', 0, 3, 0),
+                ('f', 1, 3, 1),
+            ]
+        )
+    );
     Ok(())
 }
 
@@ -151,11 +194,28 @@ fn two_workers_share_a_diamond(rt: HostRuntime) -> Result<(), Fail> {
 fn idle_workers_wait_for_inputs(rt: HostRuntime) -> Result<(), Fail> {
     let dag = diamond(&rt, rt.alloc())?;
     let cluster = run(&rt, rt.alloc(), dag, 64)?;
-    assert!(rt; has_turns(&cluster, &[
-        ('s', 0, 0, 0), ('s', 1, 0, 1), ('f', 0, 0, 0), ('s', 0, 1, 0),
-        ('f', 0, 1, 0), ('f', 1, 0, 1), ('s', 0, 1, 1), ('s', 1, 2, 0),
-        ('s', 2, 2, 1), ('f', 0, 1, 1), ('f', 1, 2, 0), ('f', 2, 2, 1),
-        ('s', 0, 3, 0), ('s', 1, 3, 1), ('f', 0, 3, 0), ('f', 1, 3, 1),
-    ]));
+    assert!(rt;
+        has_turns(
+            &cluster,
+            &[
+                ('s', 0, 0, 0),
+                ('s', 1, 0, 1),
+                ('f', 0, 0, 0),
+                ('s', 0, 1, 0),
+                ('f', 0, 1, 0),
+                ('f', 1, 0, 1),
+                ('s', 0, 1, 1),
+                ('s', 1, 2, 0),
+                ('s', 2, 2, 1),
+                ('f', 0, 1, 1),
+                ('f', 1, 2, 0),
+                ('f', 2, 2, 1),
+                ('s', 0, 3, 0),
+                ('s', 1, 3, 1),
+                ('f', 0, 3, 0),
+                ('f', 1, 3, 1),
+            ]
+        )
+    );
     Ok(())
 }

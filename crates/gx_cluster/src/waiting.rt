@@ -70,7 +70,7 @@ impl Waiting {
     pub(crate) fn add(&mut self, input: BlockId, b: BlockId) -> Result<(), NoMemory>
         ensures { OnOk result ((c : Block) → waiting_for self.new c
             ≡ cond (same_block input c) (waiting_for self.old input ++ b ∷ [])
-                (waiting_for self.old c)) }
+            (waiting_for self.old c)) }
     {
         let mut blocks = self.take(input);
         blocks.push(b)?;

@@ -40,7 +40,7 @@ pub trait Work<T> {
         requires { fits self.now b (pointed_values inputs.now) }
         ensures { IsBlock (lineage self.now) b
             → AreContents (content self.now) (block_inputs (lineage self.now) b)
-                (pointed_values inputs.now)
+            (pointed_values inputs.now)
             → IfOk result (content self.now b) };
 
     /// The cargo of a block with this value.

@@ -1,12 +1,11 @@
 -- Which blocks are held and run after a change.
-use Rattle.std.proofs.Common.{◌≡◌, ◌∙◌, ℕ, ◌<◌, suc, zero, Bool, true, false, ◌||◌, cond, List, [], ◌∷◌, length, Option, Some, None, set, refl, ap, sym, arith}
+use Rattle.std.proofs.Common.{◌≡◌, ◌∙◌, ℕ, suc, zero, Bool, true, false, ◌||◌, cond, List, [], ◌∷◌, Option, Some, None, set, refl, ap, sym}
 use Rattle.std.specs.Prelude.{is_some, slice_get}
 use Rattle.std.specs.List.{list_any}
 use Rattle.std.specs.Map.{lookup}
-use Rattle.std.specs.BTreeMap.{insert_entry}
 use Rattle.gx_rows.specs.declared.vid.Vid.{Vid}
 use Rattle.gx_lineage.specs.declared.block_id.BlockId.{BlockId}
-use Rattle.gx_cluster_state.specs.Blocks.{block_cmp, same_block}
+use Rattle.gx_cluster_state.specs.Blocks.{same_block}
 use Rattle.gx_cluster_state.specs.Shapes.{Shape, is_held, is_running, finished, runs_block, started}
 use Rattle.gx_cluster_state.proofs.Positions.{list_any-at}
 use Rattle.gx_cluster_state.proofs.SameBlocks.{lookup-insert_entry}

@@ -1,6 +1,6 @@
 -- A run under a net is one under each larger net.
-use Rattle.std.proofs.Common.{◌≡◌, ◌≢◌, ◌∙◌, ◌⊎◌, inl, inr, ⊎_elim, ℕ, ◌<◌, ◌≤◌, Bool, true, false, List, [], ◌∷◌, Option, Some, None, refl, ap, sym, subst, arith}
-use Rattle.std.specs.Prelude.{All, Contains, is_none, is_some, position, set, slice_get}
+use Rattle.std.proofs.Common.{◌≡◌, ◌∙◌, ◌⊎◌, inl, inr, ⊎_elim, ℕ, true, List, [], ◌∷◌, Option, Some, None, ap, sym, subst}
+use Rattle.std.specs.Prelude.{All, Contains, set, slice_get}
 use Rattle.std.proofs.lemmas.List.Elements.{All-contains, All-weaker}
 use Rattle.gx_lineage.specs.declared.block_id.BlockId.{BlockId}
 use Rattle.gx_lineage.specs.declared.node_id.NodeId.{NodeId}
@@ -8,9 +8,9 @@ use Rattle.gx_cluster_state.specs.declared.event.Event.{Event}
 use Rattle.gx_cluster_state.specs.declared.event.Event.TheVariants.{Start, Finish, Lose, Next}
 use Rattle.gx_cluster_state.specs.Nets.{Net, IsLeastReady, IsReady, IsStuck, Wanted, target, input}
 use Rattle.gx_cluster_state.specs.Runs.{Command, Demand, Release, Grows, Part, Passes, Point, Run, RunsIn, Step}
-use Rattle.gx_cluster_state.specs.Shapes.{Shape, all_held, finished, is_held, is_running, lost, released, started, with_nothing}
+use Rattle.gx_cluster_state.specs.Shapes.{Shape, finished, is_held, lost, released, started, with_nothing}
 use Rattle.gx_cluster_state.proofs.Positions.{get-set}
-use Rattle.gx_cluster_state.specs.Turns.{FirstFinishes, FirstStarts, Finishes, Starts, Turn, Turns, ended, taken, coming, remaining}
+use Rattle.gx_cluster_state.specs.Turns.{Finishes, Starts, Turn, Turns, ended, taken, coming}
 
 wanted_up : {n m : Net} {ts : List BlockId} {s : Shape} {b : BlockId} → Grows n m → All n.has ts → Wanted n ts s b → n.has b × Wanted m ts s b
 wanted_up {n = n} {ts = ts} g a (target h f) = (All-contains n.has ts _ a h, target h f)
@@ -145,7 +145,7 @@ all_up {n = n} {m = m} g ts a = All-weaker n.has m.has g.has ts a
 step_up : (n m : Net) (c : Command) (p q : Point) → Grows n m → RunsIn n p.shape → Step n c p q → Step m c p q × RunsIn n q.shape
 step_up n m (Demand ts) p q g r h = (
   record { inside = all_up g ts h.inside; turns = turns_up g h.inside r h.turns; held = h.held },
-  turns_run_in g h.inside r h.turns
+  turns_run_in g h.inside r h.turns,
 )
 step_up n m (Release k) p q g r h = (h, by_runs n q.shape _ h.0 (released_runs n p.shape k r))
 

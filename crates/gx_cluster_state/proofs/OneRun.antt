@@ -1,6 +1,6 @@
 -- A list of commands has one run.
-use Rattle.std.proofs.Common.{◌≡◌, ◌≢◌, ◌∙◌, ◌⊎◌, inl, inr, ℕ, ◌<◌, ◌≤◌, Bool, true, false, List, [], ◌∷◌, ◌++◌, Option, Some, None, refl, ap, sym, subst, append_assoc, append-nil, arith}
-use Rattle.std.specs.Prelude.{is_none, is_some, position, slice_get}
+use Rattle.std.proofs.Common.{◌≡◌, ◌≢◌, ◌∙◌, ◌⊎◌, inl, inr, ℕ, Bool, true, false, List, [], ◌∷◌, ◌++◌, Option, Some, None, refl, ap, sym, subst, append_assoc, append-nil, arith}
+use Rattle.std.specs.Prelude.{is_none, position, slice_get}
 use Rattle.gx_lineage.specs.declared.block_id.BlockId.{BlockId}
 use Rattle.gx_lineage.specs.declared.node_id.NodeId.{NodeId}
 use Rattle.gx_cluster_state.specs.declared.event.Event.{Event}
@@ -9,7 +9,7 @@ use Rattle.gx_cluster_state.specs.declared.log_entry.LogEntry.{LogEntry}
 use Rattle.gx_cluster_state.specs.Nets.{Net, IsLeastReady, IsStuck}
 use Rattle.gx_cluster_state.specs.Runs.{Command, Demand, Release, LogExtends, Part, Passes, Point, Run, Step}
 use Rattle.gx_cluster_state.specs.Shapes.{Shape, all_held, finished, lost, released, started, with_nothing}
-use Rattle.gx_cluster_state.specs.Turns.{FirstFinishes, FirstStarts, Finishes, Starts, Turn, Turns, ended, taken, coming, remaining}
+use Rattle.gx_cluster_state.specs.Turns.{Finishes, Starts, Turn, Turns, ended, taken, coming, remaining}
 use Rattle.gx_cluster_state.proofs.SameBlocks.{not_greater_same}
 
 one_least : {n : Net} {ts : List BlockId} {s : Shape} {b c : BlockId} → IsLeastReady n ts s b → IsLeastReady n ts s c → b ≡ c

@@ -1,5 +1,5 @@
 -- The first item that passes a test, and whether one passes, by index.
-use Rattle.std.proofs.Common.{◌≡◌, ◌∙◌, ◌⊎◌, inl, inr, ⊎_elim, ℕ, ◌+◌, ◌<◌, suc, zero, Bool, true, false, ◌||◌, cond, List, [], ◌∷◌, length, map, not, set, Option, Some, None, refl, ap, sym, subst, arith}
+use Rattle.std.proofs.Common.{◌≡◌, ◌∙◌, ◌⊎◌, inl, inr, ⊎_elim, ℕ, ◌+◌, ◌<◌, suc, zero, Bool, true, false, ◌||◌, cond, List, [], ◌∷◌, length, map, set, Option, Some, None, refl, ap, sym, subst, arith}
 use Rattle.std.specs.Prelude.{nat_lt, option_map, position, slice_get}
 use Rattle.std.specs.List.{list_any, position_or_len}
 use Rattle.std.proofs.lemmas.Bool.Decides.{nat_tests}
@@ -19,10 +19,10 @@ pub none_pass_before-more : {X : Type 0} (p : X → Bool) (xs : List X) (n : ℕ
 none_pass_before-more p xs n x h f r = record {
   fails = λ v y below e. ⊎_elim (λ earlier. r.fails v y earlier e)
       (λ here.
-        let found : slice_get xs n ≡ Some y = subst (λ (i : ℕ). slice_get xs i ≡ Some y) here e in
-        let same : Some x ≡ Some y = sym h ∙ found in
-        let equal : x ≡ y = cc in
-        ap p (sym equal) ∙ f)
+      let found : slice_get xs n ≡ Some y = subst (λ (i : ℕ). slice_get xs i ≡ Some y) here e in
+      let same : Some x ≡ Some y = sym h ∙ found in
+      let equal : x ≡ y = cc in
+      ap p (sym equal) ∙ f)
       (at_or_before v n below);
 }
 

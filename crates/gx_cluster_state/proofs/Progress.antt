@@ -1,7 +1,6 @@
 -- While a target is not held, a block runs or is ready.
-use Rattle.std.proofs.Common.{◌≡◌, ◌≢◌, ◌∙◌, ◌⊎◌, inl, inr, ⊎_elim, ℕ, ◌+◌, ◌<◌, suc, zero, Bool, true, false, ◌&&◌, List, [], ◌∷◌, length, Option, Some, None, refl, ap, sym, subst, arith}
+use Rattle.std.proofs.Common.{◌≡◌, ◌∙◌, ◌⊎◌, inl, inr, ⊎_elim, ℕ, ◌<◌, suc, zero, Bool, true, false, ◌&&◌, List, [], ◌∷◌, length, Option, Some, None, refl, ap, sym, subst, arith}
 use Rattle.std.specs.Prelude.{All, Contains, is_none, is_some, position, slice_get}
-use Rattle.std.specs.List.{list_all, list_any}
 use Rattle.std.proofs.lemmas.List.Elements.{All-cons, All-contains, All-nil}
 use Rattle.gx_lineage.specs.declared.block_id.BlockId.{BlockId}
 use Rattle.gx_cluster_state.specs.Nets.{Net, IsReady, IsStuck, Wanted, input, target}
@@ -74,7 +73,7 @@ wanted_ready n ts s earlier idle zero b below w = absurd (omega arith)
 wanted_ready n ts s earlier idle (suc k) b below w =
     ⊎_elim (λ all. (b, record { wanted = w; idle = idle b; inputs = all }))
     (λ (m : (c : BlockId) × Contains (n.inputs b) c × (is_held s c ≡ false)).
-        wanted_ready n ts s earlier idle k m.0 (let less = earlier b m.0 m.1 in omega (arith, less)) (input w (idle b) m.1 m.2))
+    wanted_ready n ts s earlier idle k m.0 (let less = earlier b m.0 m.1 in omega (arith, less)) (input w (idle b) m.1 m.2))
     (all_or_missing (is_held s) (n.inputs b))
 
 pub all_held-from : (s : Shape) (bs : List BlockId) → All (λ b. is_held s b ≡ true) bs → all_held s bs ≡ true
@@ -90,7 +89,7 @@ pub a_worker_is_busy : (n : Net) (ts : List BlockId) (s : Shape) → ((b c : Blo
 a_worker_is_busy n ts s earlier unheld stuck none =
     ⊎_elim (λ all. let held = all_held-from s ts all in let contrary : true ≡ false = sym held ∙ unheld in absurd (cc))
     (λ (m : (b : BlockId) × Contains ts b × (is_held s b ≡ false)).
-        let found = wanted_ready n ts s earlier (nothing_runs s none) (suc m.0.node.0) m.0 (omega arith) (target m.1 m.2) in stuck found.0 found.1)
+    let found = wanted_ready n ts s earlier (nothing_runs s none) (suc m.0.node.0) m.0 (omega arith) (target m.1 m.2) in stuck found.0 found.1)
     (all_or_missing (is_held s) ts)
 
 -- a worker is idle or busy
@@ -114,10 +113,10 @@ at_position p xs w h =
     ⊎_elim
     (λ none. let no = position-none p xs none in let contrary : None ≡ Some w = sym no ∙ h in absurd (cc))
     (λ (f : FirstPass p xs).
-        let found = position-is p xs f.index f.item f.there f.passes f.before in
-        let both : Some f.index ≡ Some w = sym found ∙ h in
-        let same : f.index ≡ w = cc in
-        (f.item, subst (λ (i : ℕ). slice_get xs i ≡ Some f.item) same f.there, f.passes))
+    let found = position-is p xs f.index f.item f.there f.passes f.before in
+    let both : Some f.index ≡ Some w = sym found ∙ h in
+    let same : f.index ≡ w = cc in
+    (f.item, subst (λ (i : ℕ). slice_get xs i ≡ Some f.item) same f.there, f.passes))
     (first_pass p xs)
 
 pub idle_at : (xs : List (Option BlockId)) (w : ℕ) → position is_none xs ≡ Some w → slice_get xs w ≡ Some None

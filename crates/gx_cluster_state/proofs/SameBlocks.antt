@@ -1,5 +1,5 @@
 -- Blocks that compare equal are equal, and look-ups by block.
-use Rattle.std.proofs.Common.{◌≡◌, ◌∙◌, ℕ, Bool, true, false, cond, List, [], ◌∷◌, Option, Some, None, Ordering, refl, ap, sym, subst}
+use Rattle.std.proofs.Common.{◌≡◌, ◌∙◌, ℕ, Bool, true, false, cond, List, [], ◌∷◌, Some, None, Ordering, refl, ap, sym, subst}
 use Rattle.std.specs.declared.cmp.Ordering.TheVariants.{Less, Equal, Greater}
 use Rattle.std.specs.Cmp.{IsTotalOrder, IsEquivalence}
 use Rattle.std.specs.Ordering.{is_gt, match_ordering, nat_cmp, ordering_reverse}
@@ -58,12 +58,12 @@ apart k q e h x y =
 insert_head : {X : Type 0} (o : Ordering) (e : BlockId × X) (es : List (BlockId × X)) (k q : BlockId) (v : X) → block_cmp k e.0 ≡ o
     → lookup (same_block q) (insert_entry block_cmp es k v) ≡ cond (same_block k q) (Some v) (lookup (same_block q) es)
     → lookup (same_block q) (match_ordering o ((k, v) ∷ e ∷ es) ((e.0, v) ∷ es) (e ∷ insert_entry block_cmp es k v))
-        ≡ cond (same_block k q) (Some v) (lookup (same_block q) (e ∷ es))
+    ≡ cond (same_block k q) (Some v) (lookup (same_block q) (e ∷ es))
 insert_head {X} Less e es k q v h ih =
     ap (λ (t : Bool). cond t (Some v) (cond (same_block q e.0) (Some e.1) (lookup (same_block q) es))) (same_block_laws.symm q k)
 insert_head {X} Equal e es k q v h ih =
     let at_key : same_block q e.0 ≡ same_block k q =
-        ap (same_block q) (sym (block_exact k e.0 h)) ∙ same_block_laws.symm q k in
+    ap (same_block q) (sym (block_exact k e.0 h)) ∙ same_block_laws.symm q k in
     rw at_key (sym (cond_twice (same_block k q) (Some v) (Some e.1) (lookup (same_block q) es)))
 insert_head {X} Greater e es k q v h ih =
     rw ih (cond_swap (same_block q e.0) (same_block k q) (Some e.1) (Some v) (lookup (same_block q) es) (apart k q e.0 h))

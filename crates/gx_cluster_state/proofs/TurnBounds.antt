@@ -1,6 +1,6 @@
 -- How many turns a demand takes.
-use Rattle.std.proofs.Common.{◌≡◌, ◌∙◌, ◌⊎◌, inl, inr, ⊎_elim, ℕ, ◌+◌, ◌*◌, ◌<◌, ◌≤◌, suc, zero, Bool, true, false, ◌||◌, cond, List, [], ◌∷◌, ◌++◌, Option, Some, None, length, set, refl, ap, sym, subst, arith}
-use Rattle.std.specs.Prelude.{Contains, is_some, slice_get}
+use Rattle.std.proofs.Common.{◌≡◌, ◌∙◌, inl, inr, ⊎_elim, ℕ, ◌+◌, ◌*◌, ◌<◌, ◌≤◌, suc, zero, Bool, true, false, ◌||◌, cond, List, [], ◌∷◌, ◌++◌, Option, Some, None, length, set, refl, ap, sym, subst, arith}
+use Rattle.std.specs.Prelude.{is_some, slice_get}
 use Rattle.std.specs.List.{count_by, list_any, sum_by}
 use Rattle.std.proofs.lemmas.List.{length_push}
 use Rattle.std.proofs.lemmas.List.Sums.{sum_by-cons}
@@ -15,7 +15,7 @@ use Rattle.gx_cluster_state.specs.Shapes.{Shape, finished, is_held, is_running, 
 use Rattle.gx_cluster_state.specs.Turns.{Turn, Turns, ended, taken, coming, remaining}
 use Rattle.gx_cluster_state.proofs.Changes.{list_any-set}
 use Rattle.gx_cluster_state.proofs.SameBlocks.{same_block_laws, same_exact}
-use Rattle.gx_cluster_state.proofs.TurnsLeft.{count_by-set, finish_lowers, or_cases, start_lowers, sum_by-le, sum_by-lower}
+use Rattle.gx_cluster_state.proofs.TurnsLeft.{count_by-set, finish_lowers, or_cases, start_lowers, sum_by-le}
 use Rattle.gx_cluster_state.proofs.WantedBlocks.{wanted_missing}
 
 wanted_listed : {n : Net} {ts : List BlockId} {s : Shape} {b : BlockId} (bs : List BlockId) → IsClosed n ts bs → Wanted n ts s b → list_any (same_block b) bs ≡ true
@@ -140,9 +140,9 @@ few_end most bs xs w (Some None) h d r = subst (FewRun most bs) (sym (set_same x
 few_end most bs xs w (Some (Some b)) h d r =
     let counts = count_by-set xs w (Some b) None h in
     let sums = sum_by-one (runs_one xs) (runs_one (set xs w None)) bs b d
-        (λ q apart. let same = list_any-set (runs_block q) xs w (Some b) None h apart in
-            let equal : runs_one (set xs w None) q ≡ runs_one xs q = ap (λ (t : Bool). cond t 1 0) same in omega (arith, equal))
-        (let most_one = number_le (list_any (runs_block b) xs) in omega (arith, most_one)) in
+    (λ q apart. let same = list_any-set (runs_block q) xs w (Some b) None h apart in
+    let equal : runs_one (set xs w None) q ≡ runs_one xs q = ap (λ (t : Bool). cond t 1 0) same in omega (arith, equal))
+    (let most_one = number_le (list_any (runs_block b) xs) in omega (arith, most_one)) in
     let before = r.few in
     record { few = omega (arith, counts, sums, before) }
 
@@ -170,9 +170,9 @@ sum_by-more f g [] b h lower there = let contrary : false ≡ true = there in ab
 sum_by-more f g (x ∷ xs) b h lower there =
     rw (sum_by-cons f x xs, sum_by-cons g x xs)
     (⊎_elim
-        (λ same. let at : f x + 1 ≤ g x = subst (λ (q : BlockId). f q + 1 ≤ g q) (same_exact b x same) lower in let rest = sum_by-le f g xs h in omega (arith, at, rest))
-        (λ later. let first = h x in let rest = sum_by-more f g xs b h lower later in omega (arith, first, rest))
-        (or_cases (same_block b x) (list_any (same_block b) xs) there))
+    (λ same. let at : f x + 1 ≤ g x = subst (λ (q : BlockId). f q + 1 ≤ g q) (same_exact b x same) lower in let rest = sum_by-le f g xs h in omega (arith, at, rest))
+    (λ later. let first = h x in let rest = sum_by-more f g xs b h lower later in omega (arith, first, rest))
+    (or_cases (same_block b x) (list_any (same_block b) xs) there))
 
 -- a listed block begins to run
 few_start : (most : ℕ) (bs : List BlockId) (xs : List (Option BlockId)) (w : ℕ) (b : BlockId) → slice_get xs w ≡ Some None
@@ -180,7 +180,7 @@ few_start : (most : ℕ) (bs : List BlockId) (xs : List (Option BlockId)) (w : �
 few_start most bs xs w b h there idle r =
     let counts = count_by-set xs w None (Some b) h in
     let sums = sum_by-more (runs_one xs) (runs_one (set xs w (Some b))) bs b
-        (λ q. one_more_runs xs w b q h) (one_begins xs w b h idle) there in
+    (λ q. one_more_runs xs w b q h) (one_begins xs w b h idle) there in
     let before = r.few in
     record { few = omega (arith, counts, sums, before) }
 

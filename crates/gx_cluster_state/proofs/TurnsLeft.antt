@@ -1,5 +1,5 @@
 -- A turn without an event leaves fewer turns.
-use Rattle.std.proofs.Common.{◌≡◌, ◌∙◌, ◌⊎◌, inl, inr, ⊎_elim, ℕ, ◌+◌, ◌<◌, ◌≤◌, suc, zero, Bool, true, false, ◌||◌, cond, List, [], ◌∷◌, Option, Some, None, set, refl, ap, sym, subst, arith}
+use Rattle.std.proofs.Common.{◌≡◌, ◌∙◌, ◌⊎◌, inl, inr, ⊎_elim, ℕ, ◌+◌, ◌<◌, ◌≤◌, suc, zero, Bool, true, false, ◌||◌, cond, List, [], ◌∷◌, Option, Some, None, set, refl, ap, subst, arith}
 use Rattle.std.specs.Prelude.{is_some, slice_get}
 use Rattle.std.specs.List.{count_by, list_any, sum_by}
 use Rattle.std.proofs.lemmas.List.Sums.{sum_by-cons}
@@ -26,9 +26,9 @@ sum_by-lower f g [] b h lower there = let contrary : false ≡ true = there in a
 sum_by-lower f g (x ∷ xs) b h lower there =
     rw (sum_by-cons f x xs, sum_by-cons g x xs)
     (⊎_elim
-        (λ same. let at : f x + 2 ≤ g x = subst (λ (q : BlockId). f q + 2 ≤ g q) (same_exact b x same) lower in let rest = sum_by-le f g xs h in omega (arith, at, rest))
-        (λ later. let first = h x in let rest = sum_by-lower f g xs b h lower later in omega (arith, first, rest))
-        (or_cases (same_block b x) (list_any (same_block b) xs) there))
+    (λ same. let at : f x + 2 ≤ g x = subst (λ (q : BlockId). f q + 2 ≤ g q) (same_exact b x same) lower in let rest = sum_by-le f g xs h in omega (arith, at, rest))
+    (λ later. let first = h x in let rest = sum_by-lower f g xs b h lower later in omega (arith, first, rest))
+    (or_cases (same_block b x) (list_any (same_block b) xs) there))
 
 pub count_by-set : (xs : List (Option BlockId)) (w : ℕ) (x y : Option BlockId) → slice_get xs w ≡ Some x
     → count_by is_some (set xs w y) + cond (is_some x) 1 0 ≡ count_by is_some xs + cond (is_some y) 1 0

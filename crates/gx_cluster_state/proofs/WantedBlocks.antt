@@ -1,5 +1,5 @@
 -- Wanted and ready blocks after a change.
-use Rattle.std.proofs.Common.{◌≡◌, Bool, false, List}
+use Rattle.std.proofs.Common.{◌≡◌, false, List}
 use Rattle.std.specs.Prelude.{All, Contains}
 use Rattle.std.proofs.lemmas.List.Elements.{All-contains}
 use Rattle.gx_lineage.specs.declared.block_id.BlockId.{BlockId}
@@ -17,7 +17,7 @@ wanted_missing (input c i h f) = f
 pub wanted_moves : {n : Net} {ts : List BlockId} {s t : Shape} {b : BlockId} (keeps : BlockId → Type 0)
     → ((q : BlockId) → keeps q → is_held s q ≡ false → is_held t q ≡ false)
     → ((c d : BlockId) → is_held s c ≡ false → is_running s c ≡ false → Contains (n.inputs c) d → is_held s d ≡ false
-        → keeps c × (is_running t c ≡ false))
+    → keeps c × (is_running t c ≡ false))
     → keeps b → Wanted n ts s b → Wanted n ts t b
 wanted_moves keeps held idle k (target h f) = target h (held _ k f)
 wanted_moves keeps held idle k (input {c = c} w i h f) =

@@ -1,5 +1,5 @@
 -- Which blocks a demand wants, and which are ready to run.
-use Rattle.std.specs.Prelude.{◌≡◌, ℕ, Bool, true, false, List, All, Contains}
+use Rattle.std.specs.Prelude.{◌≡◌, ℕ, true, false, List, All, Contains}
 use Rattle.std.specs.Ordering.{is_gt}
 use Rattle.gx_rows.specs.declared.vid.Vid.{Vid}
 use Rattle.gx_lineage.specs.declared.block_id.BlockId.{BlockId}

@@ -1,6 +1,5 @@
 -- One turn, and the turns of a demand.
-use Rattle.std.specs.Prelude.{◌≡◌, ◌≢◌, ◌<◌, ◌≤◌, ◌⊎◌, ℕ, Bool, false, List, [], ◌∷◌, Option, None, Some, is_none, is_some, length, position, slice_get}
-use Rattle.gx_rows.specs.declared.vid.Vid.{Vid}
+use Rattle.std.specs.Prelude.{◌≡◌, ◌≢◌, ◌<◌, ◌≤◌, ◌⊎◌, ℕ, false, List, [], ◌∷◌, None, Some, is_none, is_some, length, position, slice_get}
 use Rattle.gx_lineage.specs.declared.block_id.BlockId.{BlockId}
 use Rattle.gx_cluster_state.specs.declared.event.Event.{Event}
 use Rattle.gx_cluster_state.specs.declared.event.Event.TheVariants.{Start, Finish, Lose, Next}

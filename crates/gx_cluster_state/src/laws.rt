@@ -25,8 +25,7 @@ pub fn commands_have_one_run()
     ensures prefix { (l : Lineage) (f : BlockId → List (ℕ × Vid)) (cs : List Command)
         (p q r : Point) → Passes (net_of l f) cs p q → Run (net_of l f) cs p r
         → LogExtends q.shape.log r.shape.log }
-{
-}
+{}
 
 /// A run is one under each larger lineage too.
 pub fn runs_stand_under_larger_nets()
@@ -40,8 +39,7 @@ pub fn runs_stand_under_larger_nets()
     ensures passes { (l m : Lineage) (f g : BlockId → List (ℕ × Vid)) (cs : List Command)
         (p q : Point) → Grows (net_of l f) (net_of m g) → RunsIn (net_of l f) p.shape
         → Passes (net_of l f) cs p q → Passes (net_of m g) cs p q }
-{
-}
+{}
 
 /// A demand ends: its turns, one for each entry of the log, are no more than the events that it
 /// takes, two for each of any distinct blocks that have the targets and all inputs, and one for each
@@ -51,6 +49,5 @@ pub fn turns_are_bounded()
         (last s : Shape) (left es : List Event)
         → IsClosed (net_of l f) targets bs → Turns (net_of l f) targets last left s es
         → length last.log + length left
-            ≤ length s.log + length es + 2 * length bs + count_by is_some s.running }
-{
-}
+        ≤ length s.log + length es + 2 * length bs + count_by is_some s.running }
+{}

@@ -7,7 +7,10 @@ use gx_lineage::{BlockId, NodeId};
 #[derive(Drop)]
 pub enum LogEntry {
     /// A worker began to run a block.
-    Started { worker: u32, block: BlockId },
+    Started {
+        worker: u32,
+        block: BlockId,
+    },
     /// A worker finished a block, which it holds from now on.
     Finished {
         worker: u32,
@@ -23,7 +26,11 @@ pub enum LogEntry {
         running: Option<BlockId>,
     },
     /// An event that changed nothing.
-    Nothing { worker: u32 },
+    Nothing {
+        worker: u32,
+    },
     /// All blocks of a node are gone. This is no turn.
-    Released { node: NodeId },
+    Released {
+        node: NodeId,
+    },
 }

@@ -1,4 +1,4 @@
-use Rattle.std.proofs.Common.{◌≡◌, ◌∙◌, ap, map}
+use Rattle.std.proofs.Common.{◌∙◌, ap, map}
 use Rattle.std.proofs.lemmas.List.{map_push}
 use Rattle.gx_cluster.proofs.Lists.{captured_more, not_held}
 use Rattle.gx_cluster.proofs.tasks.capture.Goals as goal

@@ -22,14 +22,14 @@ run-requires g c =
     let at = ap (λ s. slice_get s.running c.args.w) (sym c.self.view_is) ∙ c.in-Some.ensures in
     g.met.W.Work.fits_contents c.args.work.now c.in-Some.task.now.block _ (c.requires.contents.blocks c.args.w c.in-Some.task.now at)
     (subst (AreContents (g.W.Work.content c.args.work.now) (block_inputs (g.W.Work.lineage c.args.work.now) c.in-Some.task.now.block)) (sym c.inputs.ensures)
-        (c.requires.contents.inputs c.args.w c.in-Some.task.now at))
+    (c.requires.contents.inputs c.args.w c.in-Some.task.now at))
 
 pub returns : goal.returns
 returns g c =
     let at = ap (λ s. slice_get s.running c.args.w) (sym c.self.view_is) ∙ c.in-Some.ensures in
     let content = c.in_ok-value.ensures (c.requires.contents.blocks c.args.w c.in-Some.task.now at)
-        (subst (AreContents (g.W.Work.content c.args.work.now) (block_inputs (g.W.Work.lineage c.args.work.now) c.in-Some.task.now.block)) (sym c.inputs.ensures)
-            (c.requires.contents.inputs c.args.w c.in-Some.task.now at)) in
+    (subst (AreContents (g.W.Work.content c.args.work.now) (block_inputs (g.W.Work.lineage c.args.work.now) c.in-Some.task.now.block)) (sym c.inputs.ensures)
+    (c.requires.contents.inputs c.args.w c.in-Some.task.now at)) in
     record {
       block = task_busy c.args.self.now c.args.w c.in-Some.task.now at;
       content = content;

@@ -15,6 +15,6 @@ pub returns-clause-turns : goal.returns-clause-turns
 returns-clause-turns g c =
     let n = net_of (g.W.Work.lineage c.args.work.now) (g.W.Work.freight c.args.work.now) in
     let first : shape c.reserve_spare.new.self ≡ shape c.args.self.now =
-        ap shape c.in_ok-reserve_spare.ensures.spare ∙ shape-spare c.args.self.now 8 in
+    ap shape c.in_ok-reserve_spare.ensures.spare ∙ shape-spare c.args.self.now 8 in
     subst (λ es. Turns n c.args.targets.now (shape c.run_all.new.self) es (shape c.args.self.now) es) (sym c.requires.no_events)
     (subst (λ s. Turns n c.args.targets.now (shape c.run_all.new.self) [] s []) first c.run_all.ensures.after.turns)

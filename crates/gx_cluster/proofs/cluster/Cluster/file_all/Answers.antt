@@ -15,7 +15,7 @@ pub loop-b-preserved : goal.loop-b-preserved
 loop-b-preserved g c f targets r =
     c.in_ok-file.ensures f targets (drop (c.loop-b.b-index + 1) c.args.blocks.now)
     (subst (IsAgenda (net_of c.args.dag.now f) targets (shape c.args.self.now) c.loop-b.agenda)
-        (drop_more c.args.blocks.now c.loop-b.b-index _ c.loop-b-test.true) (c.loop-b.invariant f targets r))
+    (drop_more c.args.blocks.now c.loop-b.b-index _ c.loop-b-test.true) (c.loop-b.invariant f targets r))
 
 pub returns : goal.returns
 returns g c f targets r =

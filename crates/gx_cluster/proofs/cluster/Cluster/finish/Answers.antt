@@ -1,4 +1,4 @@
-use Rattle.std.proofs.Common.{◌≡◌, ◌∙◌, Some, None, ap, length, subst, sym, refl}
+use Rattle.std.proofs.Common.{◌∙◌, Some, None, ap, length, subst, sym}
 use Rattle.std.proofs.lemmas.List.{length-set}
 use Rattle.gx_cluster_state.specs.Shapes.{finished}
 use Rattle.gx_cluster.specs.States.{HoldsContents, shape}

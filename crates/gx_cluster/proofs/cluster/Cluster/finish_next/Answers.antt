@@ -1,15 +1,13 @@
-use Rattle.std.proofs.Common.{◌≡◌, ◌∙◌, ◌<◌, ⊎_elim, ap, arith, length, subst, sym, inl, inr}
+use Rattle.std.proofs.Common.{◌∙◌, ◌<◌, ⊎_elim, subst, sym}
 use Rattle.std.specs.Prelude.{All}
 use Rattle.gx_lineage.specs.Lineage.{IsBlock}
 use Rattle.gx_cluster_state.specs.Measures.{turns_left}
 use Rattle.gx_cluster_state.specs.Nets.{net_of}
-use Rattle.gx_cluster_state.specs.Shapes.{finished}
 use Rattle.gx_cluster_state.proofs.Progress.{a_worker_is_busy, busy_at, idle_or_busy}
 use Rattle.gx_cluster_state.proofs.TurnsLeft.{finish_lowers}
 use Rattle.gx_cluster_state.proofs.WantedBlocks.{wanted_in}
 use Rattle.gx_cluster.specs.Agendas.{waiting_for}
 use Rattle.gx_cluster.specs.States.{lineage_blocks, shape}
-use Rattle.gx_cluster.proofs.AgendaTurns.{stuck_by_empty}
 use Rattle.gx_cluster.proofs.Lists.{on_ok, on_ok_any}
 use Rattle.gx_cluster.proofs.Members.{All-from_has}
 use Rattle.gx_cluster.proofs.TurnSteps.{after_finish, after_same, no_start_is_stuck, refiled}
@@ -37,18 +35,18 @@ file_all-requires g c =
     let blocks = waiting_for c.args.agenda.now.waiting c.in_ok-b.b in
     subst (λ d. All (IsBlock d) c.deref.result.now) (sym c.dag.ensures.lineage)
     (subst (All (IsBlock l)) (sym (c.deref.ensures.value ∙ c.take_waiting-waiting.ensures.blocks))
-        (All-from_has (IsBlock l) blocks
-            (λ q h. wanted_in {n = n} c.requires.blocks c.requires.sound.blocks (c.requires.agenda.waiting c.in_ok-b.b q h).wanted)))
+    (All-from_has (IsBlock l) blocks
+    (λ q h. wanted_in {n = n} c.requires.blocks c.requires.sound.blocks (c.requires.agenda.waiting c.in_ok-b.b q h).wanted)))
 
 pub returns-clause-agenda : goal.returns-clause-agenda
 returns-clause-agenda g c =
     on_ok c.file_all.result c.file_all.ensures
     (λ files. refiled (g.W.Work.lineage c.args.work.now) c.dag.result.now (g.W.Work.freight c.args.work.now) c.args.targets.now
-        (shape c.args.self.now) (shape c.finish.new.self) c.args.agenda.now c.take_waiting-waiting.new.self c.file_all.new.agenda
-        c.in-Some.w c.in_ok-b.b c.deref.result.now c.dag.ensures.lineage c.in_ok-b.ensures.finished
-        (c.deref.ensures.value ∙ c.take_waiting-waiting.ensures.blocks) c.in_ok-b.ensures.block
-        (record { ready_kept = c.take_waiting-waiting.ensures.ready_kept; others = c.take_waiting-waiting.ensures.others })
-        c.requires.agenda files)
+    (shape c.args.self.now) (shape c.finish.new.self) c.args.agenda.now c.take_waiting-waiting.new.self c.file_all.new.agenda
+    c.in-Some.w c.in_ok-b.b c.deref.result.now c.dag.ensures.lineage c.in_ok-b.ensures.finished
+    (c.deref.ensures.value ∙ c.take_waiting-waiting.ensures.blocks) c.in_ok-b.ensures.block
+    (record { ready_kept = c.take_waiting-waiting.ensures.ready_kept; others = c.take_waiting-waiting.ensures.others })
+    c.requires.agenda files)
 
 pub returns-clause-after : goal.returns-clause-after
 returns-clause-after g c =
@@ -65,4 +63,4 @@ returns-clause-less g c =
     let s = shape c.args.self.now in
     on_ok_any c.file_all.result
     (subst (λ x. turns_left bs x < turns_left bs s) (sym c.in_ok-b.ensures.finished)
-        (finish_lowers bs s c.in-Some.w c.in_ok-b.b (g.W.Work.freight c.args.work.now c.in_ok-b.b) c.in_ok-b.ensures.block))
+    (finish_lowers bs s c.in-Some.w c.in_ok-b.b (g.W.Work.freight c.args.work.now c.in_ok-b.b) c.in_ok-b.ensures.block))

@@ -1,4 +1,4 @@
-use Rattle.std.proofs.Common.{◌≡◌, ◌∙◌, sym, subst, take}
+use Rattle.std.proofs.Common.{◌∙◌, sym, subst}
 use Rattle.std.proofs.lemmas.List.{take_all}
 use Rattle.gx_cluster.specs.States.{shape}
 use Rattle.gx_cluster.proofs.MissingBlocks.{IsLastMissing, last_missing-held, last_missing-if_missing, last_missing-if_none, last_missing-if_some, last_missing-more, last_missing-none}
@@ -21,7 +21,7 @@ pub returns : goal.returns
 returns g c =
     let s = shape c.args.self.now in
     let whole : IsLastMissing s c.args.blocks.now c.loop-b.missing =
-        subst (λ bs. IsLastMissing s bs c.loop-b.missing) (take_all c.loop-b.b-index c.args.blocks.now c.loop-b-test.false) c.loop-b.invariant in
+    subst (λ bs. IsLastMissing s bs c.loop-b.missing) (take_all c.loop-b.b-index c.args.blocks.now c.loop-b-test.false) c.loop-b.invariant in
     record {
       none = last_missing-if_none s c.args.blocks.now c.loop-b.missing whole;
       some = last_missing-if_some s c.args.blocks.now c.loop-b.missing whole;

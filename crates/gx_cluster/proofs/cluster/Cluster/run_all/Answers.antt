@@ -1,4 +1,4 @@
-use Rattle.std.proofs.Common.{◌≡◌, ◌∙◌, [], true, subst, sym, take}
+use Rattle.std.proofs.Common.{◌≡◌, [], true, subst, take}
 use Rattle.std.specs.Prelude.{All}
 use Rattle.std.proofs.lemmas.List.{take_all}
 use Rattle.std.proofs.lemmas.List.Elements.{All-more, All-nil, All-weaker}
@@ -27,7 +27,7 @@ loop-target-preserved g c = record {
   after = after_then c.loop-target.invariant.after c.in_ok-run_until.ensures.after;
   held = All-more (λ b. is_held (shape c.run_until.new.self) b ≡ true) c.args.targets.now c.loop-target.target-index _ c.loop-target-test.true
       (All-weaker (λ b. is_held (shape c.loop-target.self) b ≡ true) (λ b. is_held (shape c.run_until.new.self) b ≡ true)
-          c.in_ok-run_until.ensures.after.held_kept (take c.loop-target.target-index c.args.targets.now) c.loop-target.invariant.held)
+      c.in_ok-run_until.ensures.after.held_kept (take c.loop-target.target-index c.args.targets.now) c.loop-target.invariant.held)
       c.in_ok-run_until.ensures.held;
 }
 
@@ -38,4 +38,4 @@ pub returns-clause-held : goal.returns-clause-held
 returns-clause-held g c =
     all_held-from (shape c.loop-target.self) c.args.targets.now
     (subst (All (λ b. is_held (shape c.loop-target.self) b ≡ true))
-        (take_all c.loop-target.target-index c.args.targets.now c.loop-target-test.false) c.loop-target.invariant.held)
+    (take_all c.loop-target.target-index c.args.targets.now c.loop-target-test.false) c.loop-target.invariant.held)

@@ -1,8 +1,7 @@
-use Rattle.std.proofs.Common.{◌≡◌, ◌∙◌, Some, None, ap, length, subst, sym, refl}
+use Rattle.std.proofs.Common.{◌∙◌, None, ap, length, subst, sym}
 use Rattle.std.proofs.lemmas.List.{length-set}
-use Rattle.std.specs.Prelude.{All, IsSome, true}
+use Rattle.std.specs.Prelude.{All, IsSome}
 use Rattle.gx_lineage.specs.Lineage.{block_inputs}
-use Rattle.gx_cluster_state.specs.Shapes.{is_held}
 use Rattle.gx_cluster.specs.States.{AreContents, HoldsContents, held_value, shape}
 use Rattle.gx_cluster.proofs.Lists.{either_way, on_ok}
 use Rattle.gx_cluster.proofs.ShapeOf.{held_values, worker_below}
@@ -28,10 +27,10 @@ returns g c =
       started = on_ok c.start_with.result c.start_with.ensures.started (λ h. ap shape h.2 ∙ shape-with_task s c.args.w c.args.b h.0);
       contents = either_way c.start_with.result c.start_with.ensures.started c.start_with.ensures.unchanged
           (λ h. subst (HoldsContents content l) (sym h.2)
-              (contents_task content l s c.args.w c.args.b h.0 c.requires.block
-                  (subst (λ bs. AreContents content bs h.0) inputs_are
-                      (are_contents content s.held c.deref.result.now h.0 c.requires.contents.held h.1))
-                  c.requires.contents))
+          (contents_task content l s c.args.w c.args.b h.0 c.requires.block
+          (subst (λ bs. AreContents content bs h.0) inputs_are
+          (are_contents content s.held c.deref.result.now h.0 c.requires.contents.held h.1))
+          c.requires.contents))
           (λ e. subst (HoldsContents content l) (sym e) c.requires.contents);
       unchanged = c.start_with.ensures.unchanged;
       spare_kept = either_way c.start_with.result c.start_with.ensures.started c.start_with.ensures.unchanged

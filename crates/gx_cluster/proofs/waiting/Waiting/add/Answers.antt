@@ -1,4 +1,4 @@
-use Rattle.std.proofs.Common.{◌≡◌, ◌∙◌, ap, refl}
+use Rattle.std.proofs.Common.{◌∙◌, ap}
 use Rattle.gx_cluster.specs.Agendas.{waiting_for}
 use Rattle.gx_cluster.proofs.Lists.{waiting_more}
 use Rattle.gx_cluster.proofs.waiting.Waiting.add.Goals as goal

@@ -1,5 +1,4 @@
-use Rattle.std.specs.Prelude.{is_none, is_some, map}
-use Rattle.gx_cluster_state.specs.Shapes.{runs_block}
+use Rattle.std.specs.Prelude.{is_none, map}
 use Rattle.gx_cluster_state.specs.Tasks.{task_block}
 use Rattle.gx_cluster_state.proofs.Positions.{NonePassBefore}
 use Rattle.gx_cluster_state.proofs.workers.Workers.first_idle.Given as goal

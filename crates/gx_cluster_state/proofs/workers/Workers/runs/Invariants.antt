@@ -1,4 +1,4 @@
-use Rattle.std.specs.Prelude.{is_none, is_some, map}
+use Rattle.std.specs.Prelude.{map}
 use Rattle.gx_cluster_state.specs.Shapes.{runs_block}
 use Rattle.gx_cluster_state.specs.Tasks.{task_block}
 use Rattle.gx_cluster_state.proofs.Positions.{NonePassBefore}
