@@ -1,5 +1,5 @@
 -- A state after a task began or a value came.
-use Rattle.std.proofs.Common.{◌≡◌, ◌∙◌, ⊎_elim, ℕ, Bool, true, false, cond, List, [], ◌∷◌, ◌++◌, Option, Some, None, Ordering, map, not, refl, ap, sym, subst}
+use Rattle.std.proofs.Common.{◌≡◌, ◌∙◌, ⊎_elim, ℕ, Bool, true, false, cond, List, [], ◌∷◌, ◌++◌, Option, Some, None, Ordering, map, not, refl, ap, sym, subst, suc, zero, replicate, slice_get}
 use Rattle.std.specs.Prelude.{◌==◌, ◌-◌, filter, option_map}
 use Rattle.std.specs.Map.{lookup}
 use Rattle.std.specs.BTreeMap.{insert_entry}
@@ -129,3 +129,20 @@ state_released {A} s new n h r l p =
     ∙ (ap (λ (x : List (Option (Running A))). let t : State A = record { held = filter (λ e. not (e.0.node.0 == n.0)) s.held; running = x; log = new.log; spare = new.spare } in t) r
     ∙ (ap (λ (x : List LogEntry). let t : State A = record { held = filter (λ e. not (e.0.node.0 == n.0)) s.held; running = s.running; log = x; spare = new.spare } in t) l
     ∙ ap (λ (x : ℕ). let t : State A = record { held = filter (λ e. not (e.0.node.0 == n.0)) s.held; running = s.running; log = s.log ++ entry.Released n ∷ []; spare = x } in t) p))
+
+-- ---- a cluster that holds and runs nothing
+no_item : {X : Type 0} (n w : ℕ) (x : X) → slice_get (replicate n None) w ≡ Some (Some x) → ⊥
+no_item zero w x h = cc
+no_item (suc n) zero x h = cc
+no_item (suc n) (suc w) x h = no_item n w x h
+
+-- for callers of the crate: what `empty` and `configure` leave has no values that could be no contents
+pub contents_of_nothing : {A : Type 0} (content : BlockId → A → Type 0) (l : Lineage) (s : State A) (n : ℕ) → s.held ≡ [] → s.running ≡ replicate n None
+    → HoldsContents content l s
+contents_of_nothing {A} content l s n held running = record {
+  held = λ b h e.
+      let none : lookup (same_block b) s.held ≡ None = ap (lookup (same_block b)) held in
+      let contrary : None ≡ Some h = sym none ∙ e in absurd (cc);
+  blocks = λ w r e. absurd (no_item n w r (sym (ap (λ (ts : List (Option (Running A))). slice_get ts w) running) ∙ e));
+  inputs = λ w r e. absurd (no_item n w r (sym (ap (λ (ts : List (Option (Running A))). slice_get ts w) running) ∙ e));
+}
