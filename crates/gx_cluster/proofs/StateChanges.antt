@@ -15,10 +15,13 @@ use Rattle.gx_cluster_state.specs.declared.held.Held.{Held}
 use Rattle.gx_cluster_state.specs.declared.running.Running.{Running}
 use Rattle.gx_cluster_state.specs.declared.log_entry.LogEntry.TheVariants as entry
 use Rattle.gx_cluster_state.specs.Blocks.{block_cmp, same_block}
+use Rattle.gx_cluster_state.specs.Nets.{net_of}
+use Rattle.gx_cluster_state.specs.Runs.{RunsIn}
 use Rattle.gx_cluster_state.specs.Shapes.{Shape, finished, released, started}
 use Rattle.gx_cluster_state.specs.Tasks.{task_block}
 use Rattle.gx_cluster_state.proofs.Positions.{get-set}
 use Rattle.gx_cluster_state.proofs.SameBlocks.{lookup-insert_entry, same_exact}
+use Rattle.gx_cluster.proofs.ShapeOf.{busy_task}
 use Rattle.gx_cluster.specs.States.{AreContents, HoldsContents, State, held_value, shape, with_release, with_task, with_value}
 
 pub shape-with_task : {A : Type 0} (s : State A) (w : ℕ) (b : BlockId) (vs : List A) → shape (with_task s w b vs) ≡ started (shape s) w b
@@ -146,3 +149,8 @@ contents_of_nothing {A} content l s n held running = record {
   blocks = λ w r e. absurd (no_item n w r (sym (ap (λ (ts : List (Option (Running A))). slice_get ts w) running) ∙ e));
   inputs = λ w r e. absurd (no_item n w r (sym (ap (λ (ts : List (Option (Running A))). slice_get ts w) running) ∙ e));
 }
+
+-- for callers of the crate: what runs is in the lineage, so that a run may be read under a larger one
+pub runs_in : {A : Type 0} (content : BlockId → A → Type 0) (l : Lineage) (f : BlockId → List (ℕ × Vid)) (s : State A) → HoldsContents content l s
+    → RunsIn (net_of l f) (shape s)
+runs_in content l f s r = λ w b h. let task = busy_task s w b h in subst (IsBlock l) task.2 (r.blocks w task.0 task.1)

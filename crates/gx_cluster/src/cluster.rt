@@ -30,7 +30,12 @@ impl<T> Model for Cluster<T> {
 
     ghost Value = { State T };
 
-    ghost view = { λ c. record { held = c.held.entries; running = c.workers; log = c.log.items; spare = c.spare } };
+    ghost view = { λ c. record {
+      held = c.held.entries;
+      running = c.workers;
+      log = c.log.items;
+      spare = c.spare;
+    } };
 
     ghost invariant = { λ c. (c.spare ≤ 8) × (vec_len c.log + c.spare ≤ vec_capacity c.log) };
 }

@@ -42,6 +42,7 @@ impl<T: Drop> Cluster<T> {
         ensures events_kept { events.new ≡ events.old }
         ensures spare { OnOk result (8 ≤ self.new.spare) }
     {
+        // No event is left, so each turn takes `Event::Next`.
         let _ = events;
         self.reserve_spare()?;
         self.run_all(work, targets)
@@ -119,7 +120,8 @@ impl<T: Drop> Cluster<T> {
             targets.now (shape self.new) agenda.new []) }
         ensures after { IsAfterTurns (W.content work.now) (W.lineage work.now)
             (W.freight work.now) targets.now self.old self.new }
-        ensures less { OnOk result (turns_left (lineage_blocks (W.lineage work.now)) (shape self.new)
+        ensures less { OnOk result
+            (turns_left (lineage_blocks (W.lineage work.now)) (shape self.new)
             < turns_left (lineage_blocks (W.lineage work.now)) (shape self.old)) }
     {
         match self.next_start(agenda) {
@@ -166,7 +168,8 @@ impl<T: Drop> Cluster<T> {
             targets.now (shape self.new) agenda.new []) }
         ensures after { IsAfterTurns (W.content work.now) (W.lineage work.now)
             (W.freight work.now) targets.now self.old self.new }
-        ensures less { OnOk result (turns_left (lineage_blocks (W.lineage work.now)) (shape self.new)
+        ensures less { OnOk result
+            (turns_left (lineage_blocks (W.lineage work.now)) (shape self.new)
             < turns_left (lineage_blocks (W.lineage work.now)) (shape self.old)) }
     {
         let Some(w) = self.first_busy() else {

@@ -52,6 +52,8 @@ pub trait Work<T> {
         ensures { content self.now b value.now → IfOk result (λ c. c ≡ freight self.now b) };
 
     // contents of its inputs may be the inputs of a block
-    ghost fits_contents: { (work : Self) (b : Block) (values : List T) → IsBlock (lineage work) b
-        → AreContents (content work) (block_inputs (lineage work) b) values → fits work b values };
+    ghost fits_contents: { (work : Self) (b : Block) (values : List T)
+        → IsBlock (lineage work) b
+        → AreContents (content work) (block_inputs (lineage work) b) values
+        → fits work b values };
 }
