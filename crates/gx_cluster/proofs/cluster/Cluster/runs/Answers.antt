@@ -1,0 +1,5 @@
+use Rattle.gx_cluster.proofs.ShapeOf.{is_running-shape}
+use Rattle.gx_cluster.proofs.cluster.Cluster.runs.Goals as goal
+
+pub returns : goal.returns
+returns g c = rw (← c.self.view_is) (rw is_running-shape c.runs.ensures)

@@ -1,0 +1,3 @@
+pub mod Agendas
+pub mod States
+pub mod Sweeps

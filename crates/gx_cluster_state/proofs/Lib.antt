@@ -1,0 +1,9 @@
+pub mod Changes
+pub mod LargerNets
+pub mod OneRun
+pub mod Positions
+pub mod Progress
+pub mod SameBlocks
+pub mod TurnBounds
+pub mod TurnsLeft
+pub mod WantedBlocks

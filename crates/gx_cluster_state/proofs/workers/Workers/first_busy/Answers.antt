@@ -1,0 +1,20 @@
+use Rattle.std.proofs.Common.{◌≡◌, map, refl, sym, subst, arith}
+use Rattle.std.specs.Prelude.{is_some, length}
+use Rattle.std.proofs.lemmas.List.{length-map}
+use Rattle.gx_cluster_state.specs.Tasks.{task_block}
+use Rattle.gx_cluster_state.proofs.Positions.{NonePassBefore, none_pass_before-more, position-is, position-none, slice_get-mapped}
+use Rattle.gx_cluster_state.proofs.workers.Workers.first_busy.Goals as goal
+
+pub returns-in-Some : goal.returns-in-Some
+returns-in-Some g c =
+    sym (position-is is_some _ c.loop-w.w _ (slice_get-mapped task_block c.args.self.now c.loop-w.w _ c.in-Some.ensures) refl c.loop-w.invariant)
+
+pub loop-w-preserved : goal.loop-w-preserved
+loop-w-preserved g c =
+    none_pass_before-more is_some _ c.loop-w.w _ (slice_get-mapped task_block c.args.self.now c.loop-w.w _ c.in-None.ensures) refl c.loop-w.invariant
+
+pub returns : goal.returns
+returns g c =
+    let tasks = map task_block c.args.self.now in
+    let count : c.loop-w.w ≡ length tasks = omega (arith, length-map c.args.self.now (task_block {A = g.row.T.Denot})) in
+    sym (position-none is_some tasks (subst (NonePassBefore is_some tasks) count c.loop-w.invariant))
