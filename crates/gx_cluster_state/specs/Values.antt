@@ -1,4 +1,4 @@
--- Values behind counted pointers.
+-- Values that counted pointers lead to.
 use Rattle.std.specs.Prelude.{List, map}
 use Rattle.std.specs.Global.{Global}
 use Rattle.std.specs.declared.rc.Rc.{Rc}

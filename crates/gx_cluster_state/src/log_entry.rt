@@ -29,7 +29,7 @@ pub enum LogEntry {
     Nothing {
         worker: u32,
     },
-    /// All blocks of a node are gone. This is no turn.
+    /// All blocks of a node are gone. This is not a turn.
     Released {
         node: NodeId,
     },

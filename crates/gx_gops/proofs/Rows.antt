@@ -1,4 +1,4 @@
--- Rows by identifier: in another order, behind other rows, and with one row for several identifiers.
+-- Rows by identifier: in another order, after other rows, and with one row for several identifiers.
 use Rattle.std.proofs.Common.{◌≡◌, ℕ, length, ◌==◌, Bool, true, false, cond, ◌&&◌, ◌||◌, List, [], ◌∷◌, ◌++◌, Option, None, Some, is_none, Result, Ok, Err, IfOk, arith, refl, sym, ap, ◌∙◌, subst}
 use Rattle.std.specs.Cmp.{Equal-is}
 use Rattle.std.specs.List.{AllByRecursion, IsDistinct, filter}
@@ -34,7 +34,7 @@ row_at-IsPermutation q xs ys same distinct = by (row_at q xs) refl
     by (Some row) e =
         lookup-from_Contains (eq_by_cmp_equiv id_cmp-total) q row ys distinct (Contains-permutation xs ys (q, row) same (Contains-from_lookup same_is_equal q row xs e))
 
--- ---- rows behind others
+-- ---- rows after others
 
 -- the first of two rows, if there is one
 abbrev pub first_or : Option (List Value) → Option (List Value) → Option (List Value)

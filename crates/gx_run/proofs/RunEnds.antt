@@ -15,7 +15,7 @@ use Rattle.gx_model.specs.ScriptMeaning.{Loaded, RunMeaning, answers_of_script, 
 use Rattle.gx_model.specs.Values.{LoadedRows}
 use Rattle.gx_run.specs.ActionTexts.{Prints}
 use Rattle.gx_run.specs.Meaning.{loaded_under, meaning_if_checked, meaning_if_named, meaning_under}
-use Rattle.gx_run.specs.RunResults.{Ends, Means, RunEnds, WritesFirst}
+use Rattle.gx_run.specs.RunResults.{Ends, RunMeans, RunEnds, WritesFirst}
 use Rattle.gx_run.specs.ScriptFile.{script_under}
 use Rattle.gx_run.specs.Steps.{Reads, Refuses, RefusesUnknown}
 use Rattle.gx_run.proofs.PrintedTexts.{appends_nothing}
@@ -51,7 +51,7 @@ script_known : (script : Result (List CheckedStmt) Status) (contents : Contents)
 script_known (Ok checked) contents l e = loads_known checked (rows_of_script contents checked) l e
 script_known (Err s) contents l e = absurd (cc e)
 
-means_some : (contents : Option Contents) (meaning : Contents → RunMeaning) → (m : RunMeaning) × Means contents meaning m
+means_some : (contents : Option Contents) (meaning : Contents → RunMeaning) → (m : RunMeaning) × RunMeans contents meaning m
 means_some None meaning = (refused_with status.NoMemory, tt)
 means_some (Some held) meaning = (meaning held, refl)
 
@@ -108,13 +108,13 @@ refused_ends (Some held) name a b write s w r = refused_known name held (FaultCo
 
 means_loaded : (contents : Option Contents) (name : List ℕ) (a b : ℕ) (l : Loaded)
     → Reads contents a b (λ (k : Loaded). k) (Ok l) (loaded_under name)
-    → Means contents (meaning_under name) (meaning_of_answers (answers_of_script l))
+    → RunMeans contents (meaning_under name) (meaning_of_answers (answers_of_script l))
 means_loaded None name a b l r = tt
 means_loaded (Some held) name a b l r = script_known (script_under name held) held l r
 
 means_ended : (contents : Option Contents) (meaning : Contents → RunMeaning) (m : RunMeaning) (end : Status)
-    → m.end ≡ end → Means contents meaning m → Means contents meaning (record { texts = m.texts; end = end })
-means_ended contents meaning m end is h = subst (λ e. Means contents meaning (record { texts = m.texts; end = e })) is h
+    → m.end ≡ end → RunMeans contents meaning m → RunMeans contents meaning (record { texts = m.texts; end = end })
+means_ended contents meaning m end is h = subst (λ e. RunMeans contents meaning (record { texts = m.texts; end = e })) is h
 
 pub printed_ends : (contents : Option Contents) (name : List ℕ) (a b : ℕ) (l : Loaded) (write : Type 0) (end : Status) (before after : Option (List ℕ))
     → Reads contents a b (λ (k : Loaded). k) (Ok l) (loaded_under name)

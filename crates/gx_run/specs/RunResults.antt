@@ -15,9 +15,9 @@ use Rattle.gx_run.specs.Meaning.{meaning_under}
 use Rattle.gx_run.specs.ScriptFile.{script_under}
 
 -- if the contents of the files are known, this is what the run means
-abbrev pub Means : Option Contents → (Contents → RunMeaning) → RunMeaning → Type 0
-Means None meaning m = ⊤
-Means (Some contents) meaning m = meaning contents ≡ m
+abbrev pub RunMeans : Option Contents → (Contents → RunMeaning) → RunMeaning → Type 0
+RunMeans None meaning m = ⊤
+RunMeans (Some contents) meaning m = meaning contents ≡ m
 
 -- the contents are known, and the run means that this file is refused for its source
 abbrev pub IsMissing : Option Contents → (Contents → RunMeaning) → List ℕ → Type 0
@@ -29,22 +29,22 @@ IsMissing (Some contents) meaning name = meaning contents ≡ refused_with (stat
 -- all texts of the run, which has this end
 abbrev pub WritesAll : Option Contents → (Contents → RunMeaning) → Status → Option (List ℕ) → Option (List ℕ) → Type 0
 WritesAll contents meaning end before after =
-    (texts : List (List ℕ)) × Means contents meaning (record { texts = texts; end = end })
+    (texts : List (List ℕ)) × RunMeans contents meaning (record { texts = texts; end = end })
     × Appends before after (concat texts)
 
 -- the texts of the first actions, each of them whole
 abbrev pub WritesFirst : Option Contents → (Contents → RunMeaning) → Option (List ℕ) → Option (List ℕ) → Type 0
 WritesFirst contents meaning before after =
-    (m : RunMeaning) × (k : ℕ) × Means contents meaning m × Appends before after (concat (take k m.texts))
+    (m : RunMeaning) × (k : ℕ) × RunMeans contents meaning m × Appends before after (concat (take k m.texts))
 
 -- a proper prefix of all texts
 abbrev pub WritesProperPrefix : Option Contents → (Contents → RunMeaning) → Option (List ℕ) → Option (List ℕ) → Type 0
 WritesProperPrefix contents meaning before after =
-    (m : RunMeaning) × Means contents meaning m × AppendsProperPrefix before after (concat m.texts)
+    (m : RunMeaning) × RunMeans contents meaning m × AppendsProperPrefix before after (concat m.texts)
 
 -- nothing, and the run is refused so before any action
 abbrev pub IsRefused : Option Contents → (Contents → RunMeaning) → Status → Option (List ℕ) → Option (List ℕ) → Type 0
-IsRefused contents meaning refusal before after = Means contents meaning (refused_with refusal) × (after ≡ before)
+IsRefused contents meaning refusal before after = RunMeans contents meaning (refused_with refusal) × (after ≡ before)
 
 -- How a run with a script ended, by what its files and its sink counted, and by what was written
 -- before and after

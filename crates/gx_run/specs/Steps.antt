@@ -21,9 +21,9 @@ RefusesAs status.Sink defined = ⊥
 RefusesAs status.NoMemory defined = ⊤
 
 -- the result, seen by `view`, is the defined one
-abbrev pub Returns : {A B : Type 0} → (A → B) → Result A Status → Result B Status → Type 0
-Returns view (Ok x) defined = defined ≡ Ok (view x)
-Returns view (Err s) defined = RefusesAs s defined
+abbrev pub StepReturns : {A B : Type 0} → (A → B) → Result A Status → Result B Status → Type 0
+StepReturns view (Ok x) defined = defined ≡ Ok (view x)
+StepReturns view (Err s) defined = RefusesAs s defined
 
 -- ---- a step that reads files
 

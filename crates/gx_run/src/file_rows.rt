@@ -10,7 +10,7 @@ ghost use Rattle.gx_model.specs.DataFiles.{
   rows_or_refusal,
 };
 ghost use Rattle.gx_run.specs.LoadedFiles.{column_refused, data_file_seen};
-ghost use Rattle.gx_run.specs.Steps.{Returns};
+ghost use Rattle.gx_run.specs.Steps.{StepReturns};
 
 use crate::data_file::DataFile;
 use gx_load::{LoadStop, RowStop, edge_list_of, rows_of};
@@ -29,7 +29,7 @@ pub(crate) fn rows_in(
     bytes: &[u8],
 ) -> Result<Vec<(Vid, Vid, Row)>, Status>
     requires { length bytes.now < 2 ^ 32 }
-    ensures { Returns (λ rows. rows.items) result (rows_or_refusal (data_file_seen file.now)
+    ensures { StepReturns (λ rows. rows.items) result (rows_or_refusal (data_file_seen file.now)
         (rows_in_file (data_file_seen file.now) bytes.now)) }
 {
     match spelled_rows(alloc, file, bytes) {

@@ -29,7 +29,7 @@ ghost use Rattle.gx_run.specs.LoadedFiles.{
   file_of_number,
   loaded_seen,
 };
-ghost use Rattle.gx_run.specs.Steps.{NamesOnly, Reads, Returns};
+ghost use Rattle.gx_run.specs.Steps.{NamesOnly, Reads, StepReturns};
 
 use crate::data_file::DataFile;
 use crate::fetch::fetch;
@@ -144,7 +144,7 @@ impl LoadedSoFar {
         requires short { length bytes.now ≤ most_of limit.FileBytes }
         requires sums { HasSumsWithin self.old }
         requires few { length self.old.loads + 1 < 2 ^ 32 }
-        ensures added { Returns (λ _. loaded_seen self.new) result
+        ensures added { StepReturns (λ _. loaded_seen self.new) result
             (with_bytes s (data_file_seen file.now) bytes.now (loaded_seen self.old)) }
         ensures sums { OnOk result (HasSumsWithin self.new) }
         ensures few { OnOk result (length self.new.loads ≤ length self.old.loads + 1) }
@@ -161,7 +161,7 @@ impl LoadedSoFar {
 
 // A sum, which may not pass its limit.
 fn sum_within(kind: LimitKind, sum: u64) -> Result<u64, Status>
-    ensures { Returns (λ n. n) result (model.sum_within kind sum) }
+    ensures { StepReturns (λ n. n) result (model.sum_within kind sum) }
 {
     if sum > kind.most() {
         Err(Status::Limit(kind))

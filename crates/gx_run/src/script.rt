@@ -5,7 +5,7 @@ ghost use Rattle.gx_syntax.specs.Meanings.{meaning_of};
 ghost use Rattle.gx_types.specs.ScriptTyping.{typing_of};
 ghost use Rattle.gx_types_stmts.specs.StmtBounds.{IsTypable};
 ghost use Rattle.gx_run.specs.ScriptFile as file;
-ghost use Rattle.gx_run.specs.Steps.{NamesOnly, Reads, Returns};
+ghost use Rattle.gx_run.specs.Steps.{NamesOnly, Reads, StepReturns};
 
 use crate::fetch::fetch;
 use gx_outside::Files;
@@ -39,7 +39,7 @@ pub(crate) fn read_script<F: Files>(
 // The checked script that these bytes spell.
 fn script_in(alloc: Global, bytes: &[u8]) -> Result<Typed, Status>
     requires { length bytes.now < 2 ^ 32 }
-    ensures { Returns (λ typed. typed) result (file.script_in bytes.now) }
+    ensures { StepReturns (λ typed. typed) result (file.script_in bytes.now) }
 {
     let script = parse_text(alloc, text_in(bytes)?)?;
     check_script(alloc, &script)
@@ -48,7 +48,7 @@ fn script_in(alloc: Global, bytes: &[u8]) -> Result<Typed, Status>
 // The text of these bytes.
 fn text_in(bytes: &[u8]) -> Result<&str, Status>
     requires { length bytes.now < 2 ^ 32 }
-    ensures { Returns (λ text. text.now) result (file.text_in bytes.now) }
+    ensures { StepReturns (λ text. text.now) result (file.text_in bytes.now) }
 {
     match str::from_utf8(bytes) {
         Ok(text) => Ok(text),
@@ -59,7 +59,7 @@ fn text_in(bytes: &[u8]) -> Result<&str, Status>
 // The script that a text spells.
 fn parse_text(alloc: Global, text: &str) -> Result<Script, Status>
     requires { length text.now < 2 ^ 32 }
-    ensures parsed { Returns (λ script. script.statements) result
+    ensures parsed { StepReturns (λ script. script.statements) result
         (file.stmts_meant (meaning_of text.now)) }
     ensures typable { IfOk result (λ script. All IsTypable script.statements) }
 {
@@ -78,7 +78,7 @@ fn parse_text(alloc: Global, text: &str) -> Result<Script, Status>
 // The script with its types.
 fn check_script(alloc: Global, script: &Script) -> Result<Typed, Status>
     requires { All IsTypable script.now.statements }
-    ensures { Returns (λ typed. typed) result
+    ensures { StepReturns (λ typed. typed) result
         (file.checked_or_refusal (typing_of script.now.statements)) }
 {
     match check(alloc, script) {

@@ -83,7 +83,7 @@ fn graphs(rt: HostRuntime) -> Result<(), Fail> {
             NO_FILE,
             "id,name,age\n1,bob,25\n2,eve,17\n3,ann,30\n",
         ),
-        // An end that is no row gets the default, and edges are printed in edge order.
+        // An end without a row gets the default, and edges are printed in edge order.
         (
             edges.as_str(),
             ("knows.csv", "src,dst,w\n3,1,7\n1,9,6\n1,9,6\n1,2,4\n"),

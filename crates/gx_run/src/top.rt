@@ -26,7 +26,7 @@ ghost use Rattle.gx_run.specs.RunResults.{
   IsMissing,
   IsRequested,
   IsScriptOrLoaded,
-  Means,
+  RunMeans,
   RunEnds,
   Tells,
   WritesAll,
@@ -71,13 +71,13 @@ pub fn run<F: Files, O: Sink, E: Sink>(
     // Each refusal has its cause, and the first one is returned.
     ensures usage_exactly { (result ≡ Status.Usage) ↔ (script_arg (args_of args.now) ≡ None) }
     ensures script_stop_has_cause { (stop : _) → result ≡ Status.Script stop →
-        Means (F.contents files.old) (meaning (args_of args.now))
+        RunMeans (F.contents files.old) (meaning (args_of args.now))
         (refused_with (Status.Script stop)) }
     ensures data_stop_has_cause { (stop : _) → result ≡ Status.Data stop →
-        Means (F.contents files.old) (meaning (args_of args.now))
+        RunMeans (F.contents files.old) (meaning (args_of args.now))
         (refused_with (Status.Data stop)) }
     ensures limit_has_cause { (kind : _) → result ≡ Status.Limit kind →
-        Means (F.contents files.old) (meaning (args_of args.now))
+        RunMeans (F.contents files.old) (meaning (args_of args.now))
         (refused_with (Status.Limit kind)) }
     ensures source_has_cause { (name : List ℕ) → result ≡ Status.Source name →
         FaultCounted (F.faults files.old) (F.faults files.new)
