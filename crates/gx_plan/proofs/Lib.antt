@@ -1,0 +1,5 @@
+pub mod NamedStatements
+pub mod Nodes
+pub mod OneNode
+pub mod OneStatement
+pub mod OwnNodes

@@ -1,0 +1,4 @@
+pub mod PlanInvariant
+pub mod Plans
+pub mod Recipes
+pub mod StmtNodes
