@@ -1,14 +1,16 @@
 -- A plan with one more node.
-use Rattle.std.proofs.Common.{◌≡◌, ℕ, ◌<◌, ◌+◌, List, [], ◌∷◌, ◌++◌, length, Option, Some, slice_get, option_map, unwrap_or, get_or, sym, ap, subst, ◌∙◌, refl, inl, inr, arith}
+use Rattle.std.proofs.Common.{◌≡◌, ℕ, ◌<◌, ◌+◌, All, List, [], ◌∷◌, ◌++◌, length, Option, Some, slice_get, option_map, unwrap_or, get_or, sym, ap, subst, ◌∙◌, refl, inl, inr, arith}
 use Rattle.std.specs.List.{AllByRecursion}
 use Rattle.std.proofs.lemmas.Bool.{cases_lt}
 use Rattle.std.proofs.lemmas.List.{get_or_append_left, length-append}
+use Rattle.std.proofs.lemmas.List.Elements.{All-cons, All-nil}
 use Rattle.std.proofs.Math.Seq.{get_or-append_seam}
 use Rattle.gx_lineage.specs.Lineage.{node_inputs}
 use Rattle.gx_lineage.specs.Nodes.{Node}
 use Rattle.gx_lineage.specs.declared.input.Input.{Input}
 use Rattle.gx_types_stmts.specs.declared.checked_stmt.CheckedStmt.{CheckedStmt}
-use Rattle.gx_plan.specs.PlanInvariant.{HasNodeFor, IsFed, IsPlan, MayPush}
+use Rattle.gx_plan.specs.PlanInvariant.{AreInputsFor, HasNodeFor, IsFed, IsPlan, MayPush}
+use Rattle.gx_plan.specs.PlanInvariant.AreInputsFor.{end, from, skipped}
 use Rattle.gx_plan.specs.Plans.{Planned, inputs_of, node_of, recipe_at, with_recipe}
 use Rattle.gx_plan.specs.Recipes.{node_kind_of, recipe_of}
 use Rattle.gx_plan.specs.StmtNodes.{feeds}
@@ -63,3 +65,15 @@ pushed script p r may = record {
               subst (λ (i : ℕ). IsFed script (p.recipes ++ r ∷ []) (recipe_at (p.recipes ++ r ∷ []) i) (inputs_at (p.lineage.nodes ++ node ∷ []) i)) last
               (fed-end script p.recipes r p.lineage.nodes node may.plan.recipes (record { own = may.own; read = inputs-found script p (feeds script r) may.nodes })))
         ]
+
+-- ---- its inputs are earlier nodes
+
+inputs-inside : (script : List CheckedStmt) (xs : List Recipe) (fs : List Feed) (is : List Input) → AreInputsFor script xs fs is → All (λ x. x.node.0 < length xs) is
+inputs-inside script xs _ _ end = All-nil (λ x. x.node.0 < length xs)
+inputs-inside script xs _ _ (from {f = f} {i = i} {fs = fs} {is = is} stands same rest) = All-cons (λ x. x.node.0 < length xs) i is stands.inside (inputs-inside script xs fs is rest)
+inputs-inside script xs _ _ (skipped {fs = fs} {is = is} none rest) = inputs-inside script xs fs is rest
+
+pub inputs-earlier : (script : List CheckedStmt) (p : Planned) (r : Recipe) (is : List Input) → MayPush script p r → is ≡ inputs_of p (feeds script r) → All (λ x. x.node.0 < length p.lineage.nodes) is
+inputs-earlier script p r is may e =
+    subst (λ (n : ℕ). All (λ (x : Input). x.node.0 < n) is) may.plan.recipes
+    (subst (All (λ (x : Input). x.node.0 < length p.recipes)) (sym e) (inputs-inside script p.recipes (feeds script r) (inputs_of p (feeds script r)) (inputs-found script p (feeds script r) may.nodes)))

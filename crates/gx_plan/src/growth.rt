@@ -34,15 +34,24 @@ impl Plan {
         ensures front { OnOk result (IsFrontOf self.old.planned self.new.planned) }
         ensures unchanged { OnErr result (self.new ≡ self.old) }
     {
-        let stmt = self.statement(s);
-        let kinds = own_kinds(self.alloc, stmt)?;
+        let kinds = self.own_kinds(s)?;
         if kinds.len() as u64 > u64::MAX - self.dag.len() {
             return Err(NoMemory);
         }
-        let found = self.result(stmt, kinds.as_slice());
+        let found = self.result(self.statement(s), kinds.as_slice());
         self.push_each(s, kinds.as_slice())?;
         self.set_result(s, found);
         Ok(())
+    }
+
+    // The kinds of the nodes that statement `s` adds.
+    fn own_kinds(&self, s: u32) -> Result<Vec<Kind>, NoMemory>
+        requires from_one { 1 ≤ s }
+        requires within { s ≤ length self.now.script }
+        ensures { IfOk result
+            (λ ks. ks.items ≡ nodes.own_kinds (statement_of self.now.script s)) }
+    {
+        own_kinds(self.alloc, self.statement(s))
     }
 
     // Statement `s` has this result.
