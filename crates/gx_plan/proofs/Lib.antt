@@ -3,3 +3,4 @@ pub mod Nodes
 pub mod OneNode
 pub mod OneStatement
 pub mod OwnNodes
+pub mod PlanSteps

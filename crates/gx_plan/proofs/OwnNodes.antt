@@ -31,8 +31,6 @@ abbrev pub IsOwnFound : List Recipe → ℕ → Kind → List Kind → Option No
 IsOwnFound all s k ks (Some n) = IsOwnNode all s k ks n.0
 IsOwnFound all s k ks None = list_any (is_kind k) ks ≡ false
 
-recipes_for : ℕ → List Kind → List Recipe
-recipes_for s ks = map (λ k. recipe_of k s) ks
 
 found-later : (all : List Recipe) (s : ℕ) (k x : Kind) (ks : List Kind) (o : Option NodeId) → is_kind k x ≡ false → IsOwnFound all s k ks o → IsOwnFound all s k (x ∷ ks) o
 found-later all s k x ks (Some n) other h = record { inside = h.inside; recipe = h.recipe; among = rw other h.among }

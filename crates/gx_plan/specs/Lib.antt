@@ -1,3 +1,4 @@
+pub mod Examples
 pub mod PlanInvariant
 pub mod Plans
 pub mod Recipes

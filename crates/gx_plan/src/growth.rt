@@ -34,6 +34,7 @@ impl Plan {
         ensures front { OnOk result (IsFrontOf self.old.planned self.new.planned) }
         ensures unchanged { OnErr result (self.new ≡ self.old) }
     {
+        self.nodes_are_fed();
         let kinds = self.own_kinds(s)?;
         if kinds.len() as u64 > u64::MAX - self.dag.len() {
             return Err(NoMemory);

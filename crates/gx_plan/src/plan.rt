@@ -4,7 +4,7 @@ ghost use Rattle.std.specs.Prelude.{◌≡◌, ◌∷◌, ◌+◌, ◌<◌, ◌�
 ghost use Rattle.std.specs.List.{AllByRecursion};
 ghost use Rattle.gx_lineage.specs.Lineage.{IsSound};
 ghost use Rattle.gx_types_stmts.specs.StmtNumbers.{named_numbers};
-ghost use Rattle.gx_plan.specs.PlanInvariant.{HasNodeFor, IsFrontOf, IsPlan, MayAdd};
+ghost use Rattle.gx_plan.specs.PlanInvariant.{HasNodeFor, IsPlan};
 ghost use Rattle.gx_plan.specs.Plans.{IsAdded, empty_plan, node_in, node_of, phases_of, recipe_at, result_nodes, with_number};
 ghost use Rattle.gx_plan.specs.Recipes.{recipe_of};
 ghost use Rattle.gx_plan.specs.StmtNodes.{statement_of};
@@ -114,6 +114,16 @@ impl Plan {
         ensures sound { IsSound self.now.planned.lineage }
     {
         let _len = self.dag.len();
+    }
+
+    /// Whether statement `s`, counted from 1, was added.
+    pub fn is_added(&self, s: u32) -> bool
+        requires from_one { 1 ≤ s }
+        requires within { s ≤ length self.now.script }
+        ensures added { result ≡ true → IsAdded self.now.planned s }
+        ensures fresh { result ≡ false → get_or self.now.planned.results (s - 1) None ≡ None }
+    {
+        self.results[s as usize - 1].is_some()
     }
 
     /// How the blocks of a node are made.
