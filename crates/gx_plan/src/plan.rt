@@ -1,15 +1,16 @@
 //! The plan of a script.
 
 ghost use Rattle.std.specs.Prelude.{◌≡◌, ◌∷◌, ◌+◌, ◌<◌, ◌≤◌, ◌^◌, Some, List, IfOk, OnErr, OnOk, get_or, length, map, true, false, is_some, None, ◌-◌};
-ghost use Rattle.std.specs.List.{AllByRecursion};
+ghost use Rattle.std.specs.Option.{option_to_list};
 ghost use Rattle.gx_lineage.specs.Lineage.{IsSound};
 ghost use Rattle.gx_types_stmts.specs.StmtNumbers.{named_numbers};
 ghost use Rattle.gx_plan.specs.PlanInvariant.{HasNodeFor, IsPlan};
 ghost use Rattle.gx_plan.specs.Plans.{IsAdded, empty_plan, node_in, node_of, phases_of, recipe_at, result_nodes, with_number};
 ghost use Rattle.gx_plan.specs.Recipes.{recipe_of};
-ghost use Rattle.gx_plan.specs.StmtNodes.{statement_of};
+ghost use Rattle.gx_plan.specs.StmtNodes.{phase_recipes, statement_of};
 ghost use Rattle.gx_plan.specs.declared.kind.Kind.TheVariants as kinds;
 
+use crate::stmt_nodes::{demanded_by, own_recipes};
 use crate::{Kind, Recipe, ResultNodes};
 use gx_cuts::Cut;
 use gx_lineage::{Dag, NodeId};
@@ -153,6 +154,51 @@ impl Plan {
     {
         self.nodes_are_fed();
         self.node(Recipe::of(Kind::Edges, s))
+    }
+
+    /// The target nodes of each phase of a statement, in order: those that it added, each in a phase
+    /// of its own. For an action it is the one demand.
+    ///
+    /// # Errors
+    ///
+    /// `NoMemory` if memory for the lists runs out.
+    pub fn phases(&self, s: u32) -> Result<Vec<Vec<NodeId>>, NoMemory>
+        requires from_one { 1 ≤ s }
+        requires within { s ≤ length self.now.script }
+        ensures { IfOk result (λ phases. map (λ v. v.items) phases.items
+            ≡ phases_of self.now.script self.now.planned s) }
+    {
+        let mut phases = Vec::new(self.alloc);
+        for r in &self.phase_recipes(s)? {
+            phases.push(self.targets(*r)?)?;
+        }
+        Ok(phases)
+    }
+
+    // What is demanded for statement `s`, phase by phase.
+    fn phase_recipes(&self, s: u32) -> Result<Vec<Recipe>, NoMemory>
+        requires from_one { 1 ≤ s }
+        requires within { s ≤ length self.now.script }
+        ensures { IfOk result (λ rs. rs.items
+            ≡ phase_recipes s (statement_of self.now.script s)) }
+    {
+        let stmt = self.statement(s);
+        let mut recipes = own_recipes(self.alloc, s, stmt)?;
+        if let Some(r) = demanded_by(stmt) {
+            recipes.push(r)?;
+        }
+        Ok(recipes)
+    }
+
+    // The node of a recipe as the targets of a phase.
+    fn targets(&self, r: Recipe) -> Result<Vec<NodeId>, NoMemory>
+        ensures { IfOk result (λ ns. ns.items ≡ option_to_list (node_of self.now.planned r)) }
+    {
+        let mut targets = Vec::new(self.alloc);
+        if let Some(node) = self.node(r) {
+            targets.push(node)?;
+        }
+        Ok(targets)
     }
 
     // The node at which a recipe is found.

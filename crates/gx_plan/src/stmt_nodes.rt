@@ -38,6 +38,21 @@ pub(crate) fn own_kinds(alloc: Global, stmt: &TypedStmt) -> Result<Vec<Kind>, No
     }
 }
 
+/// The recipes of the nodes that statement `s` adds, in order.
+pub(crate) fn own_recipes(
+    alloc: Global,
+    s: u32,
+    stmt: &TypedStmt,
+) -> Result<Vec<Recipe>, NoMemory>
+    ensures { IfOk result (λ rs. rs.items ≡ nodes.own_recipes s stmt.now) }
+{
+    let mut recipes = Vec::new(alloc);
+    for kind in &own_kinds(alloc, stmt)? {
+        recipes.push(Recipe::of(*kind, s))?;
+    }
+    Ok(recipes)
+}
+
 /// What the own node of this kind reads, input by input.
 pub(crate) fn feeds(alloc: Global, kind: Kind, stmt: &TypedStmt) -> Result<Vec<Feed>, NoMemory>
     ensures { IfOk result (λ fs. fs.items ≡ nodes.feeds_kind kind stmt.now) }
