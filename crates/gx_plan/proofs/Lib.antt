@@ -4,3 +4,4 @@ pub mod OneNode
 pub mod OneStatement
 pub mod OwnNodes
 pub mod PlanSteps
+pub mod SortedScripts

@@ -13,6 +13,7 @@
 mod feed;
 mod growth;
 mod kind;
+mod laws;
 mod plan;
 mod recipe;
 mod result_nodes;
@@ -20,6 +21,7 @@ mod stmt_nodes;
 
 pub use feed::Feed;
 pub use kind::Kind;
+pub use laws::{needed_nodes_are_owned, plans_grow};
 pub use plan::Plan;
 pub use recipe::Recipe;
 pub use result_nodes::ResultNodes;

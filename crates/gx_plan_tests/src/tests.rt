@@ -59,7 +59,9 @@ fn names_are_added(plan: &Plan, stmt: &TypedStmt) -> bool
     match stmt {
         TypedStmt::Vertices { .. } | TypedStmt::Edges { .. } => true,
         TypedStmt::Graph {
-            vertices, edges, ..
+            vertices,
+            edges,
+            ..
         } => has(plan, *vertices) && has(plan, *edges),
         TypedStmt::MapVertices { graph, .. } | TypedStmt::PrintEdges { graph } => {
             has(plan, *graph)
@@ -74,13 +76,7 @@ fn extend(rt: &impl Abort, plan: &mut Plan, s: u32) -> Result<(), NoMemory> {
     plan.extend(s)
 }
 
-fn assert_nodes(
-    rt: &impl Abort,
-    plan: &Plan,
-    s: u32,
-    vertices: Option<u64>,
-    edges: Option<u64>,
-) {
+fn assert_nodes(rt: &impl Abort, plan: &Plan, s: u32, vertices: Option<u64>, edges: Option<u64>) {
     assert!(rt; has(plan, s));
     assert_eq!(rt; plan.vertices_of(s), vertices.map(NodeId));
     assert_eq!(rt; plan.edges_of(s), edges.map(NodeId));
@@ -94,8 +90,20 @@ fn assert_graph_inputs(rt: &impl Abort, plan: &Plan, part: u32) -> Result<(), Fa
     let blocks = plan.dag().inputs(BlockId { node, part })?;
     assert_eq!(rt; blocks.len() as u64, 1 + plan.dag().parts() as u64);
     assert!(rt; blocks.len() > 1);
-    assert_eq!(rt; blocks[0], BlockId { node: NodeId(0), part });
-    assert_eq!(rt; blocks[1], BlockId { node: NodeId(1), part: 0 });
+    assert_eq!(rt;
+        blocks[0],
+        BlockId {
+            node: NodeId(0),
+            part
+        }
+    );
+    assert_eq!(rt;
+        blocks[1],
+        BlockId {
+            node: NodeId(1),
+            part: 0
+        }
+    );
     Ok(())
 }
 
