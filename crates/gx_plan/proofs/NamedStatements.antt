@@ -1,10 +1,10 @@
 -- What a statement reads or takes over is a statement that it names.
-use Rattle.std.proofs.Common.{◌≡◌, ℕ, Some, Option, subst}
+use Rattle.std.proofs.Common.{◌≡◌, ℕ, Some, subst}
 use Rattle.std.specs.List.{AllByRecursion}
 use Rattle.gx_types_stmts.specs.StmtNumbers.{named_numbers}
 use Rattle.gx_types_stmts.specs.declared.typed_stmt.TypedStmt.{TypedStmt}
 use Rattle.gx_types_stmts.specs.declared.typed_stmt.TypedStmt.TheVariants as stmts
-use Rattle.gx_plan.specs.StmtNodes.{demanded_by, feeds_kind, inherits}
+use Rattle.gx_plan.specs.StmtNodes.{feeds_kind, inherits}
 use Rattle.gx_plan.specs.declared.kind.Kind.{Kind}
 use Rattle.gx_plan.specs.declared.kind.Kind.TheVariants.{Vertices, Edges}
 

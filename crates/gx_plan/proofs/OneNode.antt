@@ -1,15 +1,13 @@
 -- A plan with one more node.
-use Rattle.std.proofs.Common.{◌≡◌, ℕ, ◌<◌, ◌+◌, All, List, [], ◌∷◌, ◌++◌, length, Option, Some, slice_get, option_map, unwrap_or, get_or, sym, ap, subst, ◌∙◌, refl, inl, inr, arith}
-use Rattle.std.specs.List.{AllByRecursion}
+use Rattle.std.proofs.Common.{◌≡◌, ℕ, ◌<◌, ◌+◌, All, List, [], ◌∷◌, ◌++◌, length, slice_get, option_map, unwrap_or, sym, ap, subst, ◌∙◌, inl, inr, arith}
 use Rattle.std.proofs.lemmas.Bool.{cases_lt}
 use Rattle.std.proofs.lemmas.List.{get_or_append_left, length-append}
 use Rattle.std.proofs.lemmas.List.Elements.{All-cons, All-nil}
 use Rattle.std.proofs.Math.Seq.{get_or-append_seam}
-use Rattle.gx_lineage.specs.Lineage.{node_inputs}
 use Rattle.gx_lineage.specs.Nodes.{Node}
 use Rattle.gx_lineage.specs.declared.input.Input.{Input}
 use Rattle.gx_types_stmts.specs.declared.checked_stmt.CheckedStmt.{CheckedStmt}
-use Rattle.gx_plan.specs.PlanInvariant.{AreInputsFor, HasNodeFor, IsFed, IsPlan, MayPush}
+use Rattle.gx_plan.specs.PlanInvariant.{AreInputsFor, IsFed, IsPlan, MayPush}
 use Rattle.gx_plan.specs.PlanInvariant.AreInputsFor.{end, from, skipped}
 use Rattle.gx_plan.specs.Plans.{Planned, inputs_of, node_of, recipe_at, with_recipe}
 use Rattle.gx_plan.specs.Recipes.{node_kind_of, recipe_of}
@@ -56,6 +54,7 @@ pushed script p r may = record {
   where
     node : Node
     node = record { kind = node_kind_of r.kind; inputs = inputs_of p (feeds script r) }
+
     fed-at : (n : ℕ) → n < length (p.recipes ++ r ∷ []) → IsFed script (p.recipes ++ r ∷ []) (recipe_at (p.recipes ++ r ∷ []) n) (inputs_at (p.lineage.nodes ++ node ∷ []) n)
     fed-at n below =
         elim (cases_lt n (length p.recipes)) [

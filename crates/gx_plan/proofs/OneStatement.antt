@@ -1,17 +1,16 @@
 -- A plan with one more statement.
-use Rattle.std.proofs.Common.{◌≡◌, ◌≢◌, ℕ, ◌<◌, ◌≤◌, ◌+◌, ◌-◌, Bool, true, false, ◌||◌, ◌==◌, List, [], ◌∷◌, ◌++◌, length, map, set, Option, Some, None, get_or, is_some, unwrap_or, sym, ap, subst, ◌∙◌, refl, inl, inr, append_assoc, arith}
+use Rattle.std.proofs.Common.{◌≡◌, ◌≢◌, ℕ, ◌<◌, ◌≤◌, ◌-◌, Bool, true, false, ◌||◌, List, [], ◌∷◌, ◌++◌, length, map, set, Option, Some, None, get_or, is_some, unwrap_or, sym, ap, subst, ◌∙◌, refl, inl, inr, append_assoc, arith}
 use Rattle.std.specs.List.{AllByRecursion, list_any}
 use Rattle.std.specs.Option.{option_or}
 use Rattle.std.proofs.lemmas.Bool.{cases_lt}
 use Rattle.std.proofs.lemmas.List.{append-nil, get_or-set_other, get_or-set_same, length-set}
 use Rattle.gx_lineage.specs.declared.node_id.NodeId.{NodeId}
 use Rattle.gx_lineage.specs.Nodes.{Node}
-use Rattle.gx_types_stmts.specs.StmtNumbers.{named_numbers}
 use Rattle.gx_types_stmts.specs.declared.checked_stmt.CheckedStmt.{CheckedStmt}
 use Rattle.gx_types_stmts.specs.declared.typed_stmt.TypedStmt.{TypedStmt}
-use Rattle.gx_plan.specs.PlanInvariant.{Fits, HasNodeFor, IsNodeFor, IsFrontOf, IsOwnRecipe, IsPlan, IsUnserved, MayAdd, MayPush, Owns, Serves, Stands, is_own}
+use Rattle.gx_plan.specs.PlanInvariant.{Fits, HasNodeFor, IsNodeFor, IsFrontOf, IsPlan, MayAdd, MayPush, Owns, Serves, is_own}
 use Rattle.gx_plan.specs.PlanInvariant.Owns.{own, taken}
-use Rattle.gx_plan.specs.Plans.{IsAdded, Planned, inherited_node, inputs_of, node_in, node_of, no_nodes, own_node, recipe_at, result_node, result_nodes, result_of, with_number, with_recipe, with_recipes, with_result, with_statement}
+use Rattle.gx_plan.specs.Plans.{IsAdded, Planned, inherited_node, inputs_of, node_in, node_of, no_nodes, own_node, recipe_at, result_node, result_of, with_number, with_recipe, with_recipes}
 use Rattle.gx_plan.specs.Recipes.{is_kind, node_kind_of, recipe_of}
 use Rattle.gx_plan.specs.StmtNodes.{feeds, inherits, own_kinds, own_recipes, statement_of}
 use Rattle.gx_plan.specs.declared.feed.Feed.{Feed}
@@ -86,9 +85,9 @@ each-may : (script : List CheckedStmt) (p : Planned) (s : ℕ) (ks : List Kind) 
     → AllByRecursion (MayPush script p) (map (λ k. recipe_of k s) ks)
 each-may script p s [] may among = tt
 each-may script p s (k ∷ ks) may among = (
-    one-may script p s k may (among k (rw (is_kind-same k) refl)),
-    each-may script p s ks may (λ j h. among j (or-right (is_kind j k) (list_any (is_kind j) ks) h))
-  )
+  one-may script p s k may (among k (rw (is_kind-same k) refl)),
+  each-may script p s ks may (λ j h. among j (or-right (is_kind j k) (list_any (is_kind j) ks) h)),
+)
 
 pub own-may : (script : List CheckedStmt) (p : Planned) (s : ℕ) → MayAdd script p s → AllByRecursion (MayPush script p) (own_recipes s (statement_of script s))
 own-may script p s may = each-may script p s (own_kinds (statement_of script s)) may (λ k h. h)
@@ -137,6 +136,7 @@ result-found script p s k may =
   where
     all : List Recipe
     all = p.recipes ++ own_recipes s (statement_of script s)
+
     by : (o : Option NodeId) → IsOwnFound all s k (own_kinds (statement_of script s)) o → IsNodeFor script all (recipe_of k s) (option_or o (inherited_node p k (inherits k (statement_of script s))))
     by (Some n) h = record { inside = h.inside; kind = ap (λ (r : Recipe). r.kind) h.recipe; serves = serves-own script k s (recipe_at all n.0) h.recipe h.among }
     by None h = inherited-found script p k s (own_recipes s (statement_of script s)) (inherits k (statement_of script s)) may h refl
@@ -155,12 +155,16 @@ added-plan script p s may = record {
   where
     st : TypedStmt
     st = statement_of script s
+
     q : Planned
     q = with_recipes script p (own_recipes s st)
+
     q-plan : IsPlan script q
     q-plan = pushed-each script p (own_recipes s st) may.plan (own-may script p s may)
+
     l : ResultNodes
     l = result_of p st
+
     here : (k : Kind) → HasNodeFor script (with_number script p s) (recipe_of k s)
     here k =
         let inside : s - 1 < length q.results = omega (arith, may.from_one, may.within, q-plan.results) in
@@ -169,6 +173,7 @@ added-plan script p s may = record {
         subst (IsNodeFor script (p.recipes ++ own_recipes s st) (recipe_of k s)) (sym (node_in-result p st k)) (result-found script p s k may) in
         subst (λ o. IsNodeFor script q.recipes (recipe_of k s) (node_in k (unwrap_or o no_nodes))) (sym at)
         (subst (λ xs. IsNodeFor script xs (recipe_of k s) (node_in k l)) (sym (recipes-kept script p (own_recipes s st))) found)
+
     other : (t : ℕ) → IsAdded (with_number script p s) t → (k : Kind) → t - 1 ≢ s - 1 → HasNodeFor script (with_number script p s) (recipe_of k t)
     other t added k apart =
         let at : get_or (set q.results (s - 1) (Some l)) (t - 1) None ≡ get_or q.results (t - 1) None = get_or-set_other q.results (s - 1) (t - 1) (Some l) None apart in
@@ -178,15 +183,16 @@ added-plan script p s may = record {
           result = ap is_some (sym at) ∙ added.result;
         } in
         subst (λ o. IsNodeFor script q.recipes (recipe_of k t) (node_in k (unwrap_or o no_nodes))) (sym at) (q-plan.nodes t before k)
+
     nodes-at : (t : ℕ) → IsAdded (with_number script p s) t → (k : Kind) → HasNodeFor script (with_number script p s) (recipe_of k t)
     nodes-at t added k =
         elim (cases_lt t s) [
           | inl below ↦ other t added k (λ e. absurd (omega (arith, e, below, added.from_one)))
           | inr past ↦ elim (cases_lt s t) [
-              | inl above ↦ other t added k (λ e. absurd (omega (arith, e, above, may.from_one)))
-              | inr not_above ↦ (let same : s ≡ t = omega (arith, past, not_above) in
-                  subst (λ (j : ℕ). HasNodeFor script (with_number script p s) (recipe_of k j)) same (here k))
-            ]
+            | inl above ↦ other t added k (λ e. absurd (omega (arith, e, above, may.from_one)))
+            | inr not_above ↦ (let same : s ≡ t = omega (arith, past, not_above) in
+                subst (λ (j : ℕ). HasNodeFor script (with_number script p s) (recipe_of k j)) same (here k))
+          ]
         ]
 
 -- ---- the plan before is the beginning of the plan
@@ -208,10 +214,13 @@ added-front script p s from_one fresh = record {
   where
     rs : List Recipe
     rs = own_recipes s (statement_of script s)
+
     l : ResultNodes
     l = result_of p (statement_of script s)
+
     apart : (t : ℕ) → IsAdded p t → t - 1 ≢ s - 1
     apart t added e = cc (fresh, added.result, ap (λ i. get_or p.results i None) e)
+
     same-at : (t : ℕ) → IsAdded p t → get_or (with_number script p s).results (t - 1) None ≡ get_or p.results (t - 1) None
     same-at t added =
         get_or-set_other (with_recipes script p rs).results (s - 1) (t - 1) (Some l) None (apart t added) ∙ ap (λ xs. get_or xs (t - 1) None) (results-kept script p rs)

@@ -1,5 +1,5 @@
 -- The nodes that a statement adds, among the nodes of a plan.
-use Rattle.std.proofs.Common.{◌≡◌, ℕ, ◌<◌, ◌+◌, Bool, true, false, ◌||◌, if◌then◌else◌, List, [], ◌∷◌, ◌++◌, length, map, Option, Some, None, get_or, sym, ap, subst, ◌∙◌, refl, append_assoc, arith}
+use Rattle.std.proofs.Common.{◌≡◌, ℕ, ◌<◌, ◌+◌, Bool, true, false, if◌then◌else◌, List, [], ◌∷◌, ◌++◌, length, map, Option, Some, None, sym, ap, subst, ◌∙◌, refl, append_assoc, arith}
 use Rattle.std.specs.List.{list_any}
 use Rattle.std.proofs.lemmas.List.{length-append}
 use Rattle.std.proofs.Math.Seq.{get_or-append_seam}
@@ -30,7 +30,6 @@ pub record IsOwnNode (all : List Recipe) (s : ℕ) (k : Kind) (ks : List Kind) (
 abbrev pub IsOwnFound : List Recipe → ℕ → Kind → List Kind → Option NodeId → Type 0
 IsOwnFound all s k ks (Some n) = IsOwnNode all s k ks n.0
 IsOwnFound all s k ks None = list_any (is_kind k) ks ≡ false
-
 
 found-later : (all : List Recipe) (s : ℕ) (k x : Kind) (ks : List Kind) (o : Option NodeId) → is_kind k x ≡ false → IsOwnFound all s k ks o → IsOwnFound all s k (x ∷ ks) o
 found-later all s k x ks (Some n) other h = record { inside = h.inside; recipe = h.recipe; among = rw other h.among }

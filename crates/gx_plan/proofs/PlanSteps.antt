@@ -1,9 +1,8 @@
 -- The steps by which a statement is added, as the code takes them.
-use Rattle.std.proofs.Common.{◌≡◌, ℕ, ◌<◌, ◌≤◌, ◌+◌, ◌-◌, ◌++◌, List, [], ◌∷◌, length, map, take, None, get_or, sym, ap, ap₂, subst, ◌∙◌, refl, arith}
+use Rattle.std.proofs.Common.{◌≡◌, ℕ, ◌<◌, ◌≤◌, ◌+◌, ◌-◌, ◌++◌, List, [], ◌∷◌, length, map, take, None, get_or, sym, ap, ap₂, subst, ◌∙◌, arith}
 use Rattle.std.specs.List.{AllByRecursion}
 use Rattle.std.proofs.lemmas.List.{length-append}
 use Rattle.std.proofs.Math.Seq.{take-append_seam}
-use Rattle.gx_lineage.specs.Lineage.{Lineage}
 use Rattle.gx_lineage.specs.Nodes.{Node}
 use Rattle.gx_types_stmts.specs.StmtNumbers.{named_numbers}
 use Rattle.gx_types_stmts.specs.declared.checked_stmt.CheckedStmt.{CheckedStmt}
@@ -16,7 +15,6 @@ use Rattle.gx_plan.specs.declared.recipe.Recipe.{Recipe}
 use Rattle.gx_plan.specs.declared.result_nodes.ResultNodes.{ResultNodes}
 use Rattle.gx_plan.proofs.OneNode.{pushed}
 use Rattle.gx_plan.proofs.OneStatement.{added-front, added-plan, each-more, own-may}
-
 
 pub pushed-as : (script other : List CheckedStmt) (p q : Planned) (r : Recipe) → MayPush script p r → other ≡ script → q ≡ with_recipe script p r → IsPlan other q
 pushed-as script other p q r may same is =
@@ -52,7 +50,7 @@ back-plan w v n s k ks rest split is at may =
     let each : AllByRecursion (MayPush w.script w.planned) (map (λ j. recipe_of j s) (k ∷ rest)) = subst (λ (js : List Kind). AllByRecursion (MayPush w.script w.planned) (map (λ j. recipe_of j s) js)) split may in
     subst (λ (u : PlannedScript). IsPlan u.script (first_planned n u.planned)) (sym is)
     (subst (λ (m : ℕ). IsPlan w.script (first_planned m (with_recipe w.script w.planned (recipe_of k s)))) (sym at)
-      (subst (IsPlan w.script) (sym (taken-back w.script w.planned (recipe_of k s) each.0.plan.recipes)) each.0.plan))
+    (subst (IsPlan w.script) (sym (taken-back w.script w.planned (recipe_of k s) each.0.plan.recipes)) each.0.plan))
 
 pub back-same : (w v u : PlannedScript) (n s : ℕ) (k : Kind) (ks rest : List Kind) → ks ≡ k ∷ rest → v ≡ record w { planned = with_recipe w.script w.planned (recipe_of k s) } → n ≡ length w.planned.lineage.nodes
     → AllByRecursion (MayPush w.script w.planned) (map (λ j. recipe_of j s) ks) → u ≡ record v { planned = first_planned n v.planned } → u ≡ w
@@ -76,8 +74,8 @@ pub settled : (w v : PlannedScript) (s : ℕ) (ks : List Kind) (l : ResultNodes)
 settled w v s ks l may kinds is found =
     subst (λ (u : PlannedScript). IsPlan u.script (with_result u.planned s l)) (sym is)
     (subst (λ (js : List Kind). IsPlan w.script (with_result (with_recipes w.script w.planned (map (λ k. recipe_of k s) js)) s l)) (sym kinds)
-      (subst (λ (m : ResultNodes). IsPlan w.script (with_result (with_recipes w.script w.planned (map (λ k. recipe_of k s) (own_kinds (statement_of w.script s)))) s m)) (sym found)
-        (added-plan w.script w.planned s may)))
+    (subst (λ (m : ResultNodes). IsPlan w.script (with_result (with_recipes w.script w.planned (map (λ k. recipe_of k s) (own_kinds (statement_of w.script s)))) s m)) (sym found)
+    (added-plan w.script w.planned s may)))
 
 pub front-as : (w u : PlannedScript) (s : ℕ) → 1 ≤ s → get_or w.planned.results (s - 1) None ≡ None → u ≡ record w { planned = with_number w.script w.planned s } → IsFrontOf w.planned u.planned
 front-as w u s from_one fresh is =

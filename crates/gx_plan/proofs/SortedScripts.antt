@@ -1,11 +1,11 @@
 -- Owners in scripts whose names are of the right sorts, and beginnings of plans.
-use Rattle.std.proofs.Common.{◌≡◌, ℕ, zero, suc, ◌<◌, ◌≤◌, ◌||◌, Bool, true, false, List, [], ◌∷◌, ◌++◌, Option, Some, None, is_some, sym, ap, subst, ◌∙◌, refl, append_assoc, arith}
+use Rattle.std.proofs.Common.{◌≡◌, ℕ, zero, suc, ◌≤◌, ◌||◌, Bool, true, false, List, [], ◌∷◌, ◌++◌, Option, Some, None, is_some, ap, ◌∙◌, refl, append_assoc, arith}
 use Rattle.std.specs.List.{AllByRecursion}
 use Rattle.gx_types_stmts.specs.declared.checked_stmt.CheckedStmt.{CheckedStmt}
-use Rattle.gx_plan.specs.PlanInvariant.{IsFrontOf, Owns, is_own}
+use Rattle.gx_plan.specs.PlanInvariant.{IsFrontOf, is_own}
 use Rattle.gx_plan.specs.PlanInvariant.Owns.{own, taken}
 use Rattle.gx_plan.specs.PlanLaws.{AreOwned, IsEarlierOf, IsOwned, HasSorts, makes_kind}
-use Rattle.gx_plan.specs.Plans.{IsAdded, Planned}
+use Rattle.gx_plan.specs.Plans.{Planned}
 use Rattle.gx_plan.specs.Recipes.{recipe_of}
 use Rattle.gx_plan.specs.StmtNodes.{feeds, inherits, statement_of}
 use Rattle.gx_plan.specs.declared.feed.Feed.{Feed}
@@ -35,7 +35,7 @@ owned-below script zero s k sorted below from_one makes = absurd (omega (arith, 
 owned-below script (suc n) s k sorted below from_one makes =
     owned-by script s k (is_own k (statement_of script s)) (inherits k (statement_of script s)) refl refl makes
     (λ m from. (let before : IsEarlierOf script s k m = sorted.taken s m k from_one from in
-        owned-below script n m k sorted (omega (arith, before.earlier, below)) before.from_one before.makes))
+    owned-below script n m k sorted (omega (arith, before.earlier, below)) before.from_one before.makes))
 
 read-owned : (script : List CheckedStmt) (s : ℕ) (fs : List Feed) → HasSorts script → AllByRecursion (λ f. IsEarlierOf script s f.recipe.kind f.recipe.statement) fs → AllByRecursion (λ f. IsOwned script f.recipe.kind f.recipe.statement) fs
 read-owned script s [] sorted h = tt

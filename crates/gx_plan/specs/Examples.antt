@@ -24,7 +24,7 @@ eight_statements : List CheckedStmt
 eight_statements = map checked_as (
     stmts.Vertices [] ∷ stmts.Edges [] ∷ stmts.Graph 1 2 [] ∷ stmts.MapVertices 3 [] ∷ stmts.Filter 1 (roll-Expr (layer.Const 0 (Truth true)))
     ∷ stmts.InnerJoin 1 5 [] ∷ stmts.Mask 4 3 ∷ stmts.PrintEdges 7 ∷ []
-  )
+    )
 
 with_numbers : List CheckedStmt → Planned → List ℕ → Planned
 with_numbers script p [] = p

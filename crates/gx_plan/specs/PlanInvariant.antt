@@ -2,7 +2,7 @@
 -- statement is the node that its owner added.
 use Rattle.std.specs.Prelude.{◌≡◌, ℕ, ◌<◌, ◌≤◌, Bool, true, Option, None, Some, List, [], ◌∷◌, ◌++◌, length}
 use Rattle.std.specs.List.{AllByRecursion, list_any}
-use Rattle.gx_lineage.specs.Lineage.{Lineage, node_inputs}
+use Rattle.gx_lineage.specs.Lineage.{node_inputs}
 use Rattle.gx_lineage.specs.Nodes.{Node}
 use Rattle.gx_lineage.specs.declared.input.Input.{Input}
 use Rattle.gx_lineage.specs.declared.node_id.NodeId.{NodeId}
@@ -58,9 +58,9 @@ HasNodeFor script p r = IsNodeFor script p.recipes r (node_of p r)
 pub data AreInputsFor (script : List CheckedStmt) (recipes : List Recipe) : List Feed → List Input → Type 0 where
   end : AreInputsFor script recipes [] []
   from : {f : Feed} {i : Input} {fs : List Feed} {is : List Input} → Stands script recipes f.recipe i.node → i.pattern ≡ f.pattern
-    → AreInputsFor script recipes fs is → AreInputsFor script recipes (f ∷ fs) (i ∷ is)
+      → AreInputsFor script recipes fs is → AreInputsFor script recipes (f ∷ fs) (i ∷ is)
   skipped : {f : Feed} {fs : List Feed} {is : List Input} → IsUnserved script f.recipe
-    → AreInputsFor script recipes fs is → AreInputsFor script recipes (f ∷ fs) is
+      → AreInputsFor script recipes fs is → AreInputsFor script recipes (f ∷ fs) is
 
 -- a node of this recipe may be in a plan
 abbrev pub Fits : Kind → TypedStmt → Type 0

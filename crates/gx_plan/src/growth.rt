@@ -71,8 +71,10 @@ impl Plan {
         requires may { AllByRecursion (MayPush self.old.script self.old.planned)
             (map (λ k. recipe_of k s) kinds.now) }
         requires room { length self.old.planned.lineage.nodes + length kinds.now < 2 ^ 64 }
-        ensures pushed { OnOk result (self.new ≡ record self.old { planned =
-            with_recipes self.old.script self.old.planned (map (λ k. recipe_of k s) kinds.now) }) }
+        ensures pushed { OnOk result (self.new ≡ record self.old {
+          planned =
+              with_recipes self.old.script self.old.planned (map (λ k. recipe_of k s) kinds.now);
+        }) }
         ensures unchanged { OnErr result (self.new ≡ self.old) }
     {
         let Some((kind, rest)) = kinds.split_first() else {

@@ -39,11 +39,7 @@ pub(crate) fn own_kinds(alloc: Global, stmt: &TypedStmt) -> Result<Vec<Kind>, No
 }
 
 /// The recipes of the nodes that statement `s` adds, in order.
-pub(crate) fn own_recipes(
-    alloc: Global,
-    s: u32,
-    stmt: &TypedStmt,
-) -> Result<Vec<Recipe>, NoMemory>
+pub(crate) fn own_recipes(alloc: Global, s: u32, stmt: &TypedStmt) -> Result<Vec<Recipe>, NoMemory>
     ensures { IfOk result (λ rs. rs.items ≡ nodes.own_recipes s stmt.now) }
 {
     let mut recipes = Vec::new(alloc);
@@ -68,7 +64,9 @@ fn vertex_feeds(alloc: Global, stmt: &TypedStmt) -> Result<Vec<Feed>, NoMemory>
 {
     match stmt {
         TypedStmt::Graph {
-            vertices, edges, ..
+            vertices,
+            edges,
+            ..
         } => {
             let vertices = Feed::same_part(Kind::Vertices, *vertices);
             let edges = Feed::each_part(Kind::Edges, *edges);
