@@ -1,11 +1,10 @@
 //! The plan of a script.
 
-ghost use Rattle.std.specs.Prelude.{◌≡◌, ◌∷◌, ◌+◌, ◌<◌, ◌≤◌, ◌^◌, Some, List, IfOk, OnErr, OnOk, get_or, length, map, true, false, is_some, None, ◌-◌};
+ghost use Rattle.std.specs.Prelude.{◌≡◌, ◌<◌, ◌≤◌, ◌-◌, IfOk, None, false, get_or, length, map, true};
 ghost use Rattle.std.specs.Option.{option_to_list};
 ghost use Rattle.gx_lineage.specs.Lineage.{IsSound};
-ghost use Rattle.gx_types_stmts.specs.StmtNumbers.{named_numbers};
 ghost use Rattle.gx_plan.specs.PlanInvariant.{HasNodeFor, IsPlan};
-ghost use Rattle.gx_plan.specs.Plans.{IsAdded, empty_plan, node_in, node_of, phases_of, recipe_at, result_nodes, with_number};
+ghost use Rattle.gx_plan.specs.Plans.{IsAdded, empty_plan, node_of, phases_of, recipe_at};
 ghost use Rattle.gx_plan.specs.Recipes.{recipe_of};
 ghost use Rattle.gx_plan.specs.StmtNodes.{phase_recipes, statement_of};
 ghost use Rattle.gx_plan.specs.declared.kind.Kind.TheVariants as kinds;

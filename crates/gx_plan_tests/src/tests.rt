@@ -1,9 +1,8 @@
 //! The plan of a script of two loads, a graph, a map and an action, in 1, 2 and 64 parts.
 
-ghost use Rattle.std.specs.Prelude.{◌≡◌, ◌≤◌, ◌-◌, All, IfSome, None, get_or, length, true};
+ghost use Rattle.std.specs.Prelude.{◌≡◌, ◌-◌, All, IfSome, None, true};
 ghost use Rattle.std.specs.List.{AllByRecursion};
 ghost use Rattle.gx_plan.specs.Plans.{IsAdded};
-ghost use Rattle.gx_plan.specs.StmtNodes.{statement_of};
 ghost use Rattle.gx_types_stmts.specs.StmtBounds.{IsTypable};
 ghost use Rattle.gx_types_stmts.specs.StmtNumbers.{named_numbers};
 
