@@ -1,3 +1,4 @@
+pub mod Fronts
 pub mod NamedStatements
 pub mod Nodes
 pub mod OneNode

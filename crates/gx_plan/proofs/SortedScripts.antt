@@ -1,26 +1,14 @@
--- Owners in scripts whose names are of the right sorts, and beginnings of plans.
-use Rattle.std.proofs.Common.{◌≡◌, ℕ, zero, suc, ◌≤◌, ◌||◌, Bool, true, false, List, [], ◌∷◌, ◌++◌, Option, Some, None, is_some, ap, ◌∙◌, refl, append_assoc, arith}
+-- Owners in scripts whose names are of the right sorts.
+use Rattle.std.proofs.Common.{◌≡◌, ℕ, zero, suc, ◌≤◌, ◌||◌, Bool, true, false, List, [], ◌∷◌, Option, Some, None, is_some, refl, arith}
 use Rattle.std.specs.List.{AllByRecursion}
 use Rattle.gx_types_stmts.specs.declared.checked_stmt.CheckedStmt.{CheckedStmt}
-use Rattle.gx_plan.specs.PlanInvariant.{IsFrontOf, is_own}
+use Rattle.gx_plan.specs.PlanInvariant.{is_own}
 use Rattle.gx_plan.specs.PlanInvariant.Owns.{own, taken}
 use Rattle.gx_plan.specs.PlanLaws.{AreOwned, IsEarlierOf, IsOwned, HasSorts, makes_kind}
-use Rattle.gx_plan.specs.Plans.{Planned}
 use Rattle.gx_plan.specs.Recipes.{recipe_of}
 use Rattle.gx_plan.specs.StmtNodes.{feeds, inherits, statement_of}
 use Rattle.gx_plan.specs.declared.feed.Feed.{Feed}
 use Rattle.gx_plan.specs.declared.kind.Kind.{Kind}
-
-pub fronts-joined : (p q o : Planned) → IsFrontOf p q → IsFrontOf q o → IsFrontOf p o
-fronts-joined p q o a b = record {
-  parts = b.parts ∙ a.parts;
-  more_nodes = a.more_nodes ++ b.more_nodes;
-  nodes = b.nodes ∙ ap (λ ns. ns ++ b.more_nodes) a.nodes ∙ append_assoc p.lineage.nodes a.more_nodes b.more_nodes;
-  more_recipes = a.more_recipes ++ b.more_recipes;
-  recipes = b.recipes ∙ ap (λ rs. rs ++ b.more_recipes) a.recipes ∙ append_assoc p.recipes a.more_recipes b.more_recipes;
-  results = λ r added. b.results r (a.added r.statement added) ∙ a.results r added;
-  added = λ s added. b.added s (a.added s added);
-}
 
 -- a result's node is its statement's own, or that of the statement whose node it takes over
 owned-by : (script : List CheckedStmt) (s : ℕ) (k : Kind) (own_kind : Bool) (o : Option ℕ) → is_own k (statement_of script s) ≡ own_kind → inherits k (statement_of script s) ≡ o

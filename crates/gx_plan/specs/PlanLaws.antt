@@ -1,6 +1,7 @@
 -- Laws of plans.
 use Rattle.std.specs.Prelude.{◌≡◌, ℕ, ◌<◌, ◌≤◌, ◌-◌, ◌||◌, Bool, true, None, Some, List, get_or, is_some}
 use Rattle.std.specs.List.{AllByRecursion}
+use Rattle.gx_lineage.specs.Lineage.{KeepsInputs}
 use Rattle.gx_types_stmts.specs.declared.checked_stmt.CheckedStmt.{CheckedStmt}
 use Rattle.gx_types_stmts.specs.declared.typed_stmt.TypedStmt.{TypedStmt}
 use Rattle.gx_plan.specs.PlanInvariant.{IsFrontOf, IsPlan, MayAdd, Owns, is_own}
@@ -20,6 +21,10 @@ PlansAreFronts = (script : List CheckedStmt) (p : Planned) (s : ℕ) → 1 ≤ s
 -- the beginning of a beginning is a beginning
 abbrev pub FrontsAreJoined : Type 0
 FrontsAreJoined = (p q o : Planned) → IsFrontOf p q → IsFrontOf q o → IsFrontOf p o
+
+-- each block of a beginning is computed from the same blocks as before
+abbrev pub FrontsKeepInputs : Type 0
+FrontsKeepInputs = (p q : Planned) → IsFrontOf p q → KeepsInputs p.lineage q.lineage
 
 -- ---- sorts
 
