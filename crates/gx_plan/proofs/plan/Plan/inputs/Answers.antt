@@ -1,0 +1,7 @@
+use Rattle.std.proofs.Common.{rules}
+use Rattle.gx_plan.proofs.OneNode.{inputs-earlier}
+use Rattle.gx_plan.proofs.plan.Plan.inputs.Goals as goal
+
+pub returns-clause-earlier : goal.returns-clause-earlier
+returns-clause-earlier c =
+    inputs-earlier c.args.self.now.script c.args.self.now.planned c.args.r c.loop-feed.inputs.items c.requires.may (search rules)

@@ -1,0 +1,6 @@
+pub mod Examples
+pub mod PlanInvariant
+pub mod PlanLaws
+pub mod Plans
+pub mod Recipes
+pub mod StmtNodes
