@@ -1,0 +1,6 @@
+pub mod EndsOfParts
+pub mod MadeContents
+pub mod MadeStatements
+pub mod StatementValues
+pub mod StoppedBlocks
+pub mod TableParts
