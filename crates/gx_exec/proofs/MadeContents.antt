@@ -65,6 +65,7 @@ module _ (w : World) (world : IsWorld w) (p : Planned) (i : ℕ) where
   held-inputs : (fs : List Feed) (xs : List Input) → AreInputsFor w.script p.recipes fs xs → AllByRecursion (λ f. IsOwned w.script f.recipe.kind f.recipe.statement) fs
       → map held_at (flat_map (blocks_of_input w.parts i) xs) ≡ flat_map (fed w i) fs
   held-inputs [] [] end owned = refl
+  held-inputs [] (x ∷ xs) given owned = elim given [ ]
   held-inputs (f ∷ fs) (x ∷ xs) (from stands same rest) owned =
       map-append held_at (blocks_of_input w.parts i x) (flat_map (blocks_of_input w.parts i) xs)
       ∙ ap₂ (λ cs ds. cs ++ ds) (held-input f x stands same) (held-inputs fs xs rest owned.1)

@@ -118,6 +118,12 @@ is_statement w s other = found-or w.script (s - 1) (slice_get w.script (s - 1)) 
 
 -- ---- what is taken over
 
+no-vertices : (st : TypedStmt) (m : ℕ) → inherits kind.Vertices st ≡ Some m → is_modelled st ≡ true → ⊥
+no-vertices (stmts.Reverse g) m from modelled = cc
+no-vertices (stmts.Partition g cut) m from modelled = cc
+no-vertices (stmts.MapEdges g sets) m from modelled = cc
+no-vertices _ m from modelled = cc
+
 -- a value holds what it takes over
 kept-kind : (place : ℕ → Edge → ℕ) (loads : LoadedRows) (vs : List (Graph ℕ)) (s m parts i : ℕ) (k : Kind) (st : TypedStmt) → inherits k st ≡ Some m → is_modelled st ≡ true
     → held_kind k parts i (value_of_stmt place loads vs s st) ≡ held_kind k parts i (value_named vs m)
@@ -127,7 +133,8 @@ kept-kind place loads vs s m parts i kind.Edges (stmts.FromEdges e row) from mod
     let same : e ≡ m = cc in ap (λ n. held_kind kind.Edges parts i (value_named vs n)) same
 kept-kind place loads vs s m parts i kind.Edges (stmts.MapVertices g sets) from modelled =
     let same : g ≡ m = cc in ap (λ n. held_kind kind.Edges parts i (value_named vs n)) same
-kept-kind place loads vs s m parts i _ _ from modelled = absurd cc
+kept-kind place loads vs s m parts i kind.Vertices st from modelled = absurd (no-vertices st m from modelled)
+kept-kind place loads vs s m parts i kind.Edges _ from modelled = absurd cc
 
 taken-no_action : (k : Kind) (st : TypedStmt) (m : ℕ) → inherits k st ≡ Some m → st ≡ stmts.CountTable 0 → ⊥
 taken-no_action kind.Vertices st m from e = let none : inherits kind.Vertices (stmts.CountTable 0) ≡ Some m = subst (λ x. inherits kind.Vertices x ≡ Some m) e from in cc
