@@ -1,4 +1,6 @@
 pub mod EndsOfParts
+pub mod GrownPlans
+pub mod JoinedParts
 pub mod MadeContents
 pub mod MadeStatements
 pub mod StatementValues

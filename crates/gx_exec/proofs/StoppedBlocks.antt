@@ -29,7 +29,7 @@ deep_at-is none step rank Here alike k here =
 
 -- ---- stops
 
-given-same : (f g : BlockId → Option BlockStop) (bs : List BlockId) → ((b : BlockId) → Contains bs b → f b ≡ g b) → first_given f bs ≡ first_given g bs
+pub given-same : (f g : BlockId → Option BlockStop) (bs : List BlockId) → ((b : BlockId) → Contains bs b → f b ≡ g b) → first_given f bs ≡ first_given g bs
 given-same f g [] same = refl
 given-same f g (b ∷ bs) same =
     let within : 0 < length (b ∷ bs) = omega arith in
