@@ -1,17 +1,16 @@
 -- Contents of blocks stay as they are when the plan grows.
-use Rattle.std.proofs.Common.{◌≡◌, ℕ, zero, suc, ◌<◌, List, [], ◌∷◌, ◌++◌, length, Option, Some, None, unwrap_or, option_map, refl, sym, ap, ap₂, ◌∙◌, subst, arith}
+use Rattle.std.proofs.Common.{◌≡◌, ℕ, zero, suc, ◌<◌, List, [], ◌∷◌, ◌++◌, length, None, unwrap_or, option_map, refl, sym, ap, ap₂, ◌∙◌, subst, arith}
 use Rattle.std.specs.List.{flat_map, slice_get}
 use Rattle.std.specs.Option.{option_or}
 use Rattle.std.proofs.lemmas.List.{get_or_append_left}
-use Rattle.gx_lineage.specs.Lineage.{IsBlock, IsSound, block_inputs, blocks_of_input}
+use Rattle.gx_lineage.specs.Lineage.{IsBlock, block_inputs, blocks_of_input}
 use Rattle.gx_lineage.specs.declared.block_id.BlockId.{BlockId}
-use Rattle.gx_lineage.specs.Nodes.{Node}
 use Rattle.gx_plan.specs.PlanInvariant.{IsFrontOf}
 use Rattle.gx_plan.specs.Plans.{Planned}
-use Rattle.gx_exec.specs.BlockContents.{content_of, fault_by, held_by, recipe_of_block, stop_of, stop_step}
+use Rattle.gx_exec.specs.BlockContents.{fault_by, held_by, recipe_of_block, stop_of, stop_step}
 use Rattle.gx_exec.specs.BlockLaws.{ContentsAreKept}
 use Rattle.gx_exec.specs.Deep.{StepAlike}
-use Rattle.gx_exec.specs.PartContents.{BlockStop, first_given, stop_or}
+use Rattle.gx_exec.specs.PartContents.{first_given, stop_or}
 use Rattle.gx_exec.specs.Worlds.{IsSetting, World}
 use Rattle.gx_exec.proofs.StoppedBlocks.{deep_at-same, given-same}
 

@@ -1,5 +1,5 @@
 -- What is made of the contents of a block's inputs is its content.
-use Rattle.std.proofs.Common.{◌≡◌, ℕ, ◌+◌, ◌-◌, ◌<◌, ◌≤◌, true, List, [], ◌∷◌, ◌++◌, map, length, Option, Some, None, option_map, refl, sym, ap, ap₂, ◌∙◌, subst, arith}
+use Rattle.std.proofs.Common.{◌≡◌, ℕ, ◌<◌, ◌≤◌, true, List, [], ◌∷◌, ◌++◌, map, length, Option, Some, None, refl, sym, ap, ap₂, ◌∙◌, subst}
 use Rattle.std.specs.List.{AllByRecursion, flat_map}
 use Rattle.std.specs.Option.{option_or}
 use Rattle.std.proofs.lemmas.List.{map-append}
@@ -7,13 +7,12 @@ use Rattle.gx_lineage.specs.Lineage.{IsBlock, block_inputs, blocks_at, blocks_of
 use Rattle.gx_lineage.specs.declared.block_id.BlockId.{BlockId}
 use Rattle.gx_lineage.specs.declared.input.Input.{Input}
 use Rattle.gx_lineage.specs.declared.node_id.NodeId.{NodeId}
-use Rattle.gx_model.specs.Values.{value_of_stmt}
-use Rattle.gx_plan.specs.PlanInvariant.{AreInputsFor, Fits, IsFed, Owns, Serves, Stands, is_own}
+use Rattle.gx_plan.specs.PlanInvariant.{AreInputsFor, Fits, Owns, Serves, Stands, is_own}
 use Rattle.gx_plan.specs.PlanInvariant.AreInputsFor.{end, from, skipped}
 use Rattle.gx_plan.specs.PlanLaws.{IsOwned}
 use Rattle.gx_plan.specs.Plans.{Planned, recipe_at}
 use Rattle.gx_plan.specs.Recipes.{recipe_of}
-use Rattle.gx_plan.specs.StmtNodes.{feeds, feeds_kind, statement_of}
+use Rattle.gx_plan.specs.StmtNodes.{feeds, statement_of}
 use Rattle.gx_plan.proofs.SortedScripts.{sorted-owned}
 use Rattle.gx_plan.specs.declared.feed.Feed.{Feed}
 use Rattle.gx_plan.specs.declared.kind.Kind.{Kind}
@@ -21,11 +20,11 @@ use Rattle.gx_plan.specs.declared.kind.Kind.TheVariants as kind
 use Rattle.gx_plan.specs.declared.recipe.Recipe.{Recipe}
 use Rattle.gx_types_stmts.specs.declared.typed_stmt.TypedStmt.{TypedStmt}
 use Rattle.gx_types_stmts.specs.declared.typed_stmt.TypedStmt.TheVariants as stmts
-use Rattle.gx_exec.specs.BlockContents.{content_of, fault_by, held_by, recipe_of_block, stop_of, stop_step, vertices_in_part}
+use Rattle.gx_exec.specs.BlockContents.{content_of, fault_by, held_by, recipe_of_block, stop_of}
 use Rattle.gx_exec.specs.BlockLaws.{ContentsAreMade}
 use Rattle.gx_exec.specs.MadeBlocks.{made_by, made_kind}
-use Rattle.gx_exec.specs.PartContents.{BlockStop, Content, fault_kind, first_given, held_kind, stop_in, stop_or}
-use Rattle.gx_exec.specs.Worlds.{IsSetting, IsWorld, World, place_in, placed_values, stmts_of, value_in}
+use Rattle.gx_exec.specs.PartContents.{BlockStop, Content, first_given, held_kind, stop_in, stop_or}
+use Rattle.gx_exec.specs.Worlds.{IsSetting, IsWorld, World, value_in}
 use Rattle.gx_exec.proofs.MadeStatements.{fed, made-kind}
 use Rattle.gx_exec.proofs.StatementValues.{IsStatement, is_statement, owned-value, value_in-stmt}
 use Rattle.gx_exec.proofs.StoppedBlocks.{stop_of-is}

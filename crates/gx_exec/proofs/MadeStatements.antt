@@ -1,7 +1,7 @@
 -- What is made of the parts of the values that a statement reads is the part of its value.
-use Rattle.std.proofs.Common.{◌≡◌, ℕ, ◌+◌, ◌<◌, ◌&&◌, Bool, true, false, List, [], ◌∷◌, ◌++◌, map, Option, Some, None, Result, Ok, Err, option_map, refl, sym, ap, ap₂, ◌∙◌, subst}
+use Rattle.std.proofs.Common.{◌≡◌, ℕ, ◌<◌, ◌&&◌, true, false, List, [], ◌∷◌, ◌++◌, map, Result, Ok, Err, option_map, refl, sym, ap, ap₂, ◌∙◌}
 use Rattle.std.specs.Prelude.{slice_get}
-use Rattle.std.specs.List.{AllByRecursion, cons_option, filter, filter_map, flat_map, range_with_len}
+use Rattle.std.specs.List.{cons_option, filter, filter_map, flat_map, range_with_len}
 use Rattle.std.specs.List.Sorted.{IsStrictlySortedBy}
 use Rattle.std.specs.Map.{keys_of}
 use Rattle.std.specs.Result.{result_ok}
@@ -12,16 +12,15 @@ use Rattle.gx_rows.specs.Order.{Edge}
 use Rattle.gx_rows.specs.declared.cause.Cause.{Cause}
 use Rattle.gx_rows.specs.declared.value.Value.{Value}
 use Rattle.gx_rows.specs.declared.vid.Vid.{Vid}
-use Rattle.gx_cuts.specs.Places.{place_of}
 use Rattle.gx_epart.specs.Edges.{edge_order_of}
 use Rattle.gx_expr.specs.Evaluation.{row_result}
 use Rattle.gx_expr.specs.declared.expr.Expr.{Expr}
 use Rattle.gx_expr.specs.declared.side.Side.{Side}
 use Rattle.gx_expr.specs.declared.side.Side.TheVariants as side
-use Rattle.gx_index.specs.Ids.{IsAscending, has_id, id_cmp}
+use Rattle.gx_index.specs.Ids.{IsAscending, id_cmp}
 use Rattle.gx_gops.specs.Tables.{both_ends, default_rows, ends_in_part, is_in_part, table_of}
-use Rattle.gx_model.specs.Graphs.{Graph, Vertex, ends_in_edges, plain_edges, table_of_rows}
-use Rattle.gx_model.specs.StmtFaults.{KeyFault, faults_on_vertices, key_fault_if, least_fault}
+use Rattle.gx_model.specs.Graphs.{Vertex, ends_in_edges, plain_edges, table_of_rows}
+use Rattle.gx_model.specs.StmtFaults.{faults_on_vertices, key_fault_if, least_fault}
 use Rattle.gx_model.specs.Values.{columns_of_vertex, id_of_vertex, mapped_vertices, value_of_stmt, vertex_row_result, vertex_values, vertices_loaded}
 use Rattle.gx_model.proofs.LeastFaults.{least_fault-first}
 use Rattle.gx_model.proofs.Tables.{table_of_rows-defaults, with_default}
@@ -33,12 +32,11 @@ use Rattle.gx_plan.specs.declared.kind.Kind.TheVariants as kind
 use Rattle.gx_lineage.specs.Lineage.{parts_of_pattern}
 use Rattle.gx_types_stmts.specs.declared.typed_stmt.TypedStmt.{TypedStmt}
 use Rattle.gx_types_stmts.specs.declared.typed_stmt.TypedStmt.TheVariants as stmts
-use Rattle.gx_vpart.specs.Operators.{VertexRow}
 use Rattle.gx_vtable.specs.Kernels.{earliest_fault, faults_at, fault_if, rows_made}
 use Rattle.gx_vtable.specs.NewRows.{columns_at_vertex, id_at_vertex, mapped_row, values_at_vertex, vertex_id}
 use Rattle.gx_exec.specs.BlockContents.{vertices_in_part}
 use Rattle.gx_exec.specs.MadeBlocks.{completed, edges_held, made_kind, mapped}
-use Rattle.gx_exec.specs.PartContents.{Content, Edges, Stopped, Table, fault_kind, held_kind, part_of_edges, part_of_vertices, stop_on_vertex, stop_or}
+use Rattle.gx_exec.specs.PartContents.{Content, Edges, Table, fault_kind, held_kind, part_of_edges, part_of_vertices, stop_on_vertex, stop_or}
 use Rattle.gx_exec.specs.Worlds.{World, place_in, placed_values, value_in}
 use Rattle.gx_exec.proofs.EndsOfParts.{ArePlaced, ends_of_parts, has_id-filter}
 use Rattle.gx_exec.proofs.StatementValues.{value-placed}

@@ -1,5 +1,5 @@
 -- The content of each block of a planned script.
-use Rattle.std.specs.Prelude.{ℕ, Option, None, List, map}
+use Rattle.std.specs.Prelude.{ℕ, Option, None, List}
 use Rattle.std.specs.Option.{option_or}
 use Rattle.gx_exec.specs.Deep.{deep_at}
 use Rattle.gx_exec.specs.PartContents.{BlockStop, Content, fault_kind, first_given, held_kind, part_of_vertices, stop_or}

@@ -1,5 +1,5 @@
 -- Laws of contents.
-use Rattle.std.specs.Prelude.{◌≡◌, ℕ, List, [], map, flat_map}
+use Rattle.std.specs.Prelude.{◌≡◌, map}
 use Rattle.gx_exec.specs.BlockContents.{content_of, recipe_of_block}
 use Rattle.gx_exec.specs.MadeBlocks.{made_by}
 use Rattle.gx_exec.specs.Worlds.{IsSetting, World}

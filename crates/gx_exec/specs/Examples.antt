@@ -8,7 +8,6 @@
 use Rattle.std.specs.Prelude.{◌≡◌, ℕ, pos, List, [], ◌∷◌, None, map, refl}
 use Rattle.gx_cuts.specs.Mixing.{mix_of}
 use Rattle.gx_cuts.specs.declared.cut.Cut.TheVariants.{OneD}
-use Rattle.gx_lineage.specs.Lineage.{block_inputs}
 use Rattle.gx_lineage.specs.declared.block_id.BlockId.{BlockId}
 use Rattle.gx_plan.specs.Plans.{Planned, empty_plan, with_number}
 use Rattle.gx_plan.specs.Recipes.{recipe_of}
@@ -21,7 +20,7 @@ use Rattle.gx_types_stmts.specs.StmtNumbers.{named_numbers}
 use Rattle.gx_types_stmts.specs.declared.checked_stmt.CheckedStmt.{CheckedStmt}
 use Rattle.gx_types_stmts.specs.declared.typed_stmt.TypedStmt.{TypedStmt}
 use Rattle.gx_types_stmts.specs.declared.typed_stmt.TypedStmt.TheVariants as stmts
-use Rattle.gx_exec.specs.BlockContents.{content_of, recipe_of_block, stop_of}
+use Rattle.gx_exec.specs.BlockContents.{content_of, stop_of}
 use Rattle.gx_exec.specs.MadeBlocks.{made_by}
 use Rattle.gx_exec.specs.PartContents.{BlockStop, Content, Edges, Stopped, Table}
 use Rattle.gx_exec.specs.Worlds.{World, placed_values}

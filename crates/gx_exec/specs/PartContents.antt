@@ -1,7 +1,6 @@
 -- The parts of tables and of edges, and what a block holds of them.
-use Rattle.std.specs.Prelude.{◌≡◌, ℕ, pos, ◌==◌, List, [], ◌∷◌, filter, Option, None, Some, option_map, refl}
+use Rattle.std.specs.Prelude.{ℕ, ◌==◌, List, [], ◌∷◌, filter, Option, None, Some, option_map}
 use Rattle.std.specs.Option.{option_or}
-use Rattle.gx_cuts.specs.Mixing.{mix_of}
 use Rattle.gx_epart.specs.Edges.{edge_order_of}
 use Rattle.gx_gops.specs.Tables.{is_in_part}
 use Rattle.gx_index.specs.Ids.{id_cmp}
