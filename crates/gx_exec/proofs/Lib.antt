@@ -1,6 +1,7 @@
 pub mod EndsOfParts
 pub mod GrownPlans
 pub mod JoinedParts
+pub mod LeastOfParts
 pub mod MadeContents
 pub mod MadeStatements
 pub mod StatementValues

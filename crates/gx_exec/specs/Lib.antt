@@ -4,4 +4,5 @@ pub mod Deep
 pub mod Examples
 pub mod MadeBlocks
 pub mod PartContents
+pub mod PhaseFaults
 pub mod Worlds
