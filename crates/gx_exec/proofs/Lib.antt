@@ -6,4 +6,5 @@ pub mod MadeContents
 pub mod MadeStatements
 pub mod StatementValues
 pub mod StoppedBlocks
+pub mod StopsOfNodes
 pub mod TableParts

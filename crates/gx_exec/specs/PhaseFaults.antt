@@ -1,10 +1,14 @@
 -- The fault of a phase: the least of the faults of its parts.
-use Rattle.std.specs.Prelude.{◌≡◌, ℕ, pos, if◌then◌else◌, List, [], ◌∷◌, Option, None, Some, option_map, refl}
+use Rattle.std.specs.Prelude.{◌≡◌, ℕ, ◌+◌, ◌<◌, pos, length, if◌then◌else◌, List, [], ◌∷◌, Option, None, Some, option_map, refl}
 use Rattle.std.specs.List.{range_with_len}
 use Rattle.std.specs.Ordering.{is_gt}
 use Rattle.std.specs.declared.cmp.Ordering.{Ordering}
 use Rattle.std.specs.declared.cmp.Ordering.TheVariants.{Less, Greater}
 use Rattle.gx_index.specs.Ids.{id_cmp}
+use Rattle.gx_lineage.specs.Lineage.{IsBlock}
+use Rattle.gx_lineage.specs.declared.block_id.BlockId.{BlockId}
+use Rattle.gx_lineage.specs.declared.node_id.NodeId.{NodeId}
+use Rattle.gx_plan.specs.Plans.{Planned, recipe_at}
 use Rattle.gx_model.specs.StmtFaults.{fault_of_stmt}
 use Rattle.gx_plan.specs.StmtNodes.{statement_of}
 use Rattle.gx_plan.specs.declared.kind.Kind.TheVariants as kind
@@ -15,9 +19,9 @@ use Rattle.gx_rows.specs.declared.fault.Fault.{Fault}
 use Rattle.gx_rows.specs.declared.row_key.RowKey.{RowKey}
 use Rattle.gx_rows.specs.declared.row_key.RowKey.TheVariants.{Vertex, Edge}
 use Rattle.gx_types_stmts.specs.declared.typed_stmt.TypedStmt.{TypedStmt}
-use Rattle.gx_exec.specs.BlockContents.{fault_by}
+use Rattle.gx_exec.specs.BlockContents.{fault_by, stop_of}
 use Rattle.gx_exec.specs.PartContents.{BlockStop, fault_kind}
-use Rattle.gx_exec.specs.Worlds.{IsWorld, World, placed_values, value_in}
+use Rattle.gx_exec.specs.Worlds.{IsSetting, IsWorld, World, placed_values, value_in}
 
 -- vertices by their identifiers, edges in edge order, and vertices before edges
 abbrev pub key_cmp : RowKey → RowKey → Ordering
@@ -56,6 +60,25 @@ LeastAreFaults = (w : World) → IsWorld w → (r : Recipe) → least_over (faul
 abbrev pub FaultsAreOfModel : Type 0
 FaultsAreOfModel = (w : World) (s : ℕ) (st : TypedStmt)
     → fault_of_stmt (placed_values w) s st ≡ option_map (fault_of_stop s) (fault_kind kind.Vertices (λ n. (value_in w n).vertices) st)
+
+-- ---- by the blocks of a node
+
+-- no block of the first n nodes is stopped
+abbrev pub AreQuietBelow : World → Planned → ℕ → Type 0
+AreQuietBelow w p n = (b : BlockId) → IsBlock p.lineage b → b.node.0 < n → stop_of w p b ≡ None
+
+-- the least stop of the blocks of a node
+abbrev pub least_stop : World → Planned → NodeId → Option BlockStop
+least_stop w p n = least_over (λ j. stop_of w p (record { node = n; part = j })) (range_with_len 0 w.parts)
+
+-- if no block before it is stopped, the least stop of the blocks of a node is the fault of its statement
+abbrev pub StopsAreFaults : Type 0
+StopsAreFaults = (w : World) (p : Planned) → IsSetting w p → (n : NodeId) → n.0 < length p.lineage.nodes → AreQuietBelow w p n.0
+    → least_stop w p n ≡ fault_in w (recipe_at p.recipes n.0)
+
+-- and if there is none, no block of the node is stopped
+abbrev pub QuietNodesGoOn : Type 0
+QuietNodesGoOn = (w : World) (p : Planned) → IsSetting w p → (n : NodeId) → AreQuietBelow w p n.0 → least_stop w p n ≡ None → AreQuietBelow w p (n.0 + 1)
 
 -- vertex 2 is less than 3
 least_over-example : least_over (λ j. Some (record { key = Vertex (record { 0 = pos j }); expr = 0; cause = cause.Overflow })) (3 ∷ 2 ∷ [])
