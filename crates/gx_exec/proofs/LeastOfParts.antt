@@ -2,18 +2,18 @@
 use Rattle.std.proofs.Common.{◌≡◌, ℕ, zero, suc, ◌+◌, ◌<◌, ◌≤◌, ◌==◌, ◌%◌, Bool, true, false, cond, List, [], ◌∷◌, Option, Some, None, Result, Ok, Err, option_map, refl, sym, ap, ◌∙◌, subst, arith}
 use Rattle.std.proofs.Math.Nat.{mod-lt}
 use Rattle.std.proofs.lemmas.Bool.Decides.{nat_tests}
-use Rattle.std.specs.List.{AllByRecursion, cons_option, filter, range_with_len}
+use Rattle.std.specs.List.{AllByRecursion, cons_option, range_with_len}
 use Rattle.std.specs.List.Sorted.{IsStrictlySortedBy}
 use Rattle.std.specs.Map.{keys_of}
 use Rattle.std.specs.Option.{IfSome}
 use Rattle.std.specs.Ordering.{is_gt, ordering_reverse}
-use Rattle.std.specs.declared.cmp.Ordering.TheVariants.{Less, Equal, Greater}
+use Rattle.std.specs.declared.cmp.Ordering.TheVariants.{Less, Greater}
 use Rattle.gx_cuts.specs.Mixing.{mix_of}
 use Rattle.gx_gops.specs.Tables.{is_in_part}
 use Rattle.gx_index.specs.Ids.{IsAscending, id_cmp, id_cmp-total}
 use Rattle.gx_model.specs.Graphs.{Vertex}
-use Rattle.gx_model.specs.StmtFaults.{KeyFault, fault_of_stmt, fault_on_vertex, faults_on_vertices, key_fault_if, least_fault}
-use Rattle.gx_model.specs.Values.{value_named, vertex_row_result}
+use Rattle.gx_model.specs.StmtFaults.{KeyFault, fault_on_vertex, faults_on_vertices, key_fault_if, least_fault}
+use Rattle.gx_model.specs.Values.{vertex_row_result}
 use Rattle.gx_model.proofs.LeastFaults.{least_fault-first}
 use Rattle.gx_plan.specs.StmtNodes.{statement_of}
 use Rattle.gx_plan.specs.declared.kind.Kind.{Kind}
@@ -25,10 +25,10 @@ use Rattle.gx_rows.specs.declared.row_key.RowKey.TheVariants as row_key
 use Rattle.gx_rows.specs.declared.vid.Vid.{Vid}
 use Rattle.gx_types_stmts.specs.declared.typed_stmt.TypedStmt.{TypedStmt}
 use Rattle.gx_types_stmts.specs.declared.typed_stmt.TypedStmt.TheVariants as stmts
-use Rattle.gx_exec.specs.BlockContents.{vertices_in_part}
+use Rattle.gx_exec.specs.BlockContents.{value_in_part}
 use Rattle.gx_exec.specs.PartContents.{BlockStop, fault_kind, part_of_vertices, stop_on_vertex}
-use Rattle.gx_exec.specs.PhaseFaults.{FaultsAreOfModel, LeastAreFaults, fault_of_stop, key_cmp, least_over, lesser_of, lesser_stop}
-use Rattle.gx_exec.specs.Worlds.{World, placed_values, value_in}
+use Rattle.gx_exec.specs.PhaseFaults.{FaultsAreOfModel, LeastAreFaults, fault_of_stop, key_cmp, least_over, lesser_of}
+use Rattle.gx_exec.specs.Worlds.{World, value_in}
 use Rattle.gx_exec.proofs.StatementValues.{value-placed}
 use Rattle.gx_exec.proofs.TableParts.{IsAscending-part}
 
@@ -158,7 +158,7 @@ module _ {A : Type 0} (result : Vertex → Result A (Cause × ℕ)) where
 -- ---- each statement
 
 least-kind : (w : World) → 0 < w.parts → (k : Kind) (st : TypedStmt)
-    → least_over (λ j. fault_kind k (vertices_in_part w j) st) (range_with_len 0 w.parts) ≡ fault_kind k (λ s. (value_in w s).vertices) st
+    → least_over (λ j. fault_kind k (value_in_part w j) st) (range_with_len 0 w.parts) ≡ fault_kind k (value_in w) st
 least-kind w some kind.Vertices (stmts.MapVertices g sets) =
     least-of_parts (vertex_row_result sets) w.parts some (value_in w g).vertices (value-placed w some g).ascending
 least-kind w some kind.Vertices _ = least-none (range_with_len 0 w.parts)

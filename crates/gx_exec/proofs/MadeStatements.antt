@@ -34,7 +34,7 @@ use Rattle.gx_types_stmts.specs.declared.typed_stmt.TypedStmt.{TypedStmt}
 use Rattle.gx_types_stmts.specs.declared.typed_stmt.TypedStmt.TheVariants as stmts
 use Rattle.gx_vtable.specs.Kernels.{earliest_fault, faults_at, fault_if, rows_made}
 use Rattle.gx_vtable.specs.NewRows.{columns_at_vertex, id_at_vertex, mapped_row, values_at_vertex, vertex_id}
-use Rattle.gx_exec.specs.BlockContents.{vertices_in_part}
+use Rattle.gx_exec.specs.BlockContents.{value_in_part}
 use Rattle.gx_exec.specs.MadeBlocks.{completed, edges_held, made_kind, mapped}
 use Rattle.gx_exec.specs.PartContents.{Content, Edges, Table, fault_kind, held_kind, part_of_edges, part_of_vertices, stop_on_vertex, stop_or}
 use Rattle.gx_exec.specs.Worlds.{World, place_in, placed_values, value_in}
@@ -136,7 +136,7 @@ mapped-is parts i sets vertices ascending =
 
 pub made-kind : (w : World) → 0 < w.parts → (i s : ℕ) (k : Kind) (st : TypedStmt) → is_own k st ≡ true
     → made_kind w k i s st (flat_map (fed w i) (feeds_kind k st))
-    ≡ stop_or (fault_kind k (vertices_in_part w i) st) (held_kind k w.parts i (value_of_stmt (place_in w) w.loads (placed_values w) s st))
+    ≡ stop_or (fault_kind k (value_in_part w i) st) (held_kind k w.parts i (value_of_stmt (place_in w) w.loads (placed_values w) s st))
 made-kind w some i s kind.Vertices (stmts.Vertices file) own =
     ap Table (table_of-is (part_of_vertices w.parts i (vertices_loaded w.loads s)) ∙ sym (part-table_of_rows w.parts i (vertices_loaded w.loads s)))
 made-kind w some i s kind.Vertices (stmts.Graph t e default) own =

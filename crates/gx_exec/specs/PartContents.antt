@@ -27,6 +27,10 @@ part_of_vertices parts i vertices = filter (λ v. is_in_part i parts v.0) vertic
 abbrev pub part_of_edges : ℕ → List (ℕ × Edge) → List Edge
 part_of_edges i edges = plain_edges (filter (λ e. e.0 == i) edges)
 
+-- the vertices and edges of a value in part i
+abbrev pub part_of_value : ℕ → ℕ → Graph ℕ → Graph ℕ
+part_of_value parts i g = record { vertices = part_of_vertices parts i g.vertices; edges = filter (λ e. e.0 == i) g.edges }
+
 -- ---- contents
 
 -- the vertex or edge on which an expression has no value, the number of the node, and why
@@ -54,11 +58,11 @@ held_kind kind.Edges parts i g = Edges (edge_order_of (part_of_edges i g.edges))
 abbrev pub stop_on_vertex : KeyFault Vid → BlockStop
 stop_on_vertex f = record { key = row_key.Vertex f.0; expr = f.1.1; cause = f.1.0 }
 
--- the fault of the own node of this kind, where the statements that it names have these vertices
-abbrev pub fault_kind : Kind → (ℕ → List Vertex) → TypedStmt → Option BlockStop
-fault_kind kind.Vertices vertices (stmts.MapVertices g sets) =
-    option_map stop_on_vertex (least_fault id_cmp (faults_on_vertices (vertex_row_result sets) (vertices g)))
-fault_kind _ vertices _ = None
+-- the fault of the own node of this kind, where the statements that it names have these values
+abbrev pub fault_kind : Kind → (ℕ → Graph ℕ) → TypedStmt → Option BlockStop
+fault_kind kind.Vertices values (stmts.MapVertices g sets) =
+    option_map stop_on_vertex (least_fault id_cmp (faults_on_vertices (vertex_row_result sets) (values g).vertices))
+fault_kind _ values _ = None
 
 -- ---- stops
 

@@ -46,7 +46,7 @@ least_over f (j ∷ js) = lesser_of (f j) (least_over f js)
 
 -- the fault of a node's statement, on all parts
 abbrev pub fault_in : World → Recipe → Option BlockStop
-fault_in w r = fault_kind r.kind (λ s. (value_in w s).vertices) (statement_of w.script r.statement)
+fault_in w r = fault_kind r.kind (value_in w) (statement_of w.script r.statement)
 
 -- a stop, as the fault of statement s
 abbrev pub fault_of_stop : ℕ → BlockStop → Fault
@@ -59,7 +59,7 @@ LeastAreFaults = (w : World) → IsWorld w → (r : Recipe) → least_over (faul
 -- which is that of the model
 abbrev pub FaultsAreOfModel : Type 0
 FaultsAreOfModel = (w : World) (s : ℕ) (st : TypedStmt)
-    → fault_of_stmt (placed_values w) s st ≡ option_map (fault_of_stop s) (fault_kind kind.Vertices (λ n. (value_in w n).vertices) st)
+    → fault_of_stmt (placed_values w) s st ≡ option_map (fault_of_stop s) (fault_kind kind.Vertices (value_in w) st)
 
 -- ---- by the blocks of a node
 
