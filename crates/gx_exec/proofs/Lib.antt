@@ -1,0 +1,10 @@
+pub mod EndsOfParts
+pub mod GrownPlans
+pub mod JoinedParts
+pub mod LeastOfParts
+pub mod MadeContents
+pub mod MadeStatements
+pub mod StatementValues
+pub mod StoppedBlocks
+pub mod StopsOfNodes
+pub mod TableParts

@@ -1,0 +1,81 @@
+-- The blocks of a script of four statements in two parts.
+--
+--     vertices t from "t" (age: int); edges e from "e" (w: int);
+--     graph g = t, e default (0); fromedges f = e default (7);
+--
+-- where the file of `t` has the rows 3,30 and 1,25, and that of `e` the edges 2,3,1 and 1,2,4. Of two
+-- parts, vertices 1 and 3 are in the first and 2 is in the second, and an edge is where its source is.
+use Rattle.std.specs.Prelude.{◌≡◌, ℕ, pos, List, [], ◌∷◌, None, map, refl}
+use Rattle.gx_cuts.specs.Mixing.{mix_of}
+use Rattle.gx_cuts.specs.declared.cut.Cut.TheVariants.{OneD}
+use Rattle.gx_lineage.specs.declared.block_id.BlockId.{BlockId}
+use Rattle.gx_plan.specs.Plans.{Planned, empty_plan, with_number}
+use Rattle.gx_plan.specs.Recipes.{recipe_of}
+use Rattle.gx_plan.specs.declared.kind.Kind.TheVariants as kind
+use Rattle.gx_rows.specs.declared.cause.Cause.TheVariants as cause
+use Rattle.gx_rows.specs.declared.row_key.RowKey.TheVariants as row_key
+use Rattle.gx_rows.specs.declared.value.Value.TheVariants.{Int}
+use Rattle.gx_rows.specs.declared.vid.Vid.{Vid}
+use Rattle.gx_types_stmts.specs.StmtNumbers.{named_numbers}
+use Rattle.gx_types_stmts.specs.declared.checked_stmt.CheckedStmt.{CheckedStmt}
+use Rattle.gx_types_stmts.specs.declared.typed_stmt.TypedStmt.{TypedStmt}
+use Rattle.gx_types_stmts.specs.declared.typed_stmt.TypedStmt.TheVariants as stmts
+use Rattle.gx_exec.specs.BlockContents.{content_of, stop_of}
+use Rattle.gx_exec.specs.MadeBlocks.{made_by}
+use Rattle.gx_exec.specs.PartContents.{BlockStop, Content, Edges, Stopped, Table}
+use Rattle.gx_exec.specs.Worlds.{World, placed_values}
+
+vertex : ℕ → Vid
+vertex n = record { 0 = pos n }
+
+checked_as : TypedStmt → CheckedStmt
+checked_as st = record { stmt = st; made = record { vertices = None; edges = None }; uses = named_numbers st }
+
+four_statements : World
+four_statements = record {
+  script = map checked_as (stmts.Vertices [] ∷ stmts.Edges [] ∷ stmts.Graph 1 2 (Int (pos 0) ∷ []) ∷ stmts.FromEdges 2 (Int (pos 7) ∷ []) ∷ []);
+  loads =
+      (1, (vertex 3, vertex 0, Int (pos 30) ∷ []) ∷ (vertex 1, vertex 0, Int (pos 25) ∷ []) ∷ [])
+      ∷ (2, (vertex 2, vertex 3, Int (pos 1) ∷ []) ∷ (vertex 1, vertex 2, Int (pos 4) ∷ []) ∷ [])
+      ∷ [];
+  parts = 2;
+  cut = OneD;
+}
+
+with_numbers : List CheckedStmt → Planned → List ℕ → Planned
+with_numbers script p [] = p
+with_numbers script p (s ∷ ss) = with_numbers script (with_number script p s) ss
+
+-- its nodes are the vertices of `t`, the edges of `e`, and the vertices of `g` and of `f`
+plan_of_four : Planned
+plan_of_four = with_numbers four_statements.script (empty_plan 2 4) (1 ∷ 2 ∷ 3 ∷ 4 ∷ [])
+
+block : ℕ → ℕ → BlockId
+block node part = record { node = record { 0 = node }; part = part }
+
+content_of_four : ℕ → ℕ → Content
+content_of_four node part = content_of four_statements plan_of_four (block node part)
+
+-- `t` has no vertex in the second part, and `g` has the end 2 there
+contents-of_vertices : (content_of_four 0 0 ≡ Table ((vertex 1, Int (pos 25) ∷ []) ∷ (vertex 3, Int (pos 30) ∷ []) ∷ []))
+    × (content_of_four 0 1 ≡ Table [])
+    × (content_of_four 2 0 ≡ Table ((vertex 1, Int (pos 25) ∷ []) ∷ (vertex 3, Int (pos 30) ∷ []) ∷ []))
+    × (content_of_four 2 1 ≡ Table ((vertex 2, Int (pos 0) ∷ []) ∷ []))
+    × (content_of_four 3 0 ≡ Table ((vertex 1, Int (pos 7) ∷ []) ∷ (vertex 3, Int (pos 7) ∷ []) ∷ []))
+unfolding vertex checked_as four_statements with_numbers plan_of_four block content_of_four placed_values stop_of mix_of
+contents-of_vertices = (refl, refl, refl, refl, refl)
+
+-- each edge is in the part of its source
+contents-of_edges : (content_of_four 1 0 ≡ Edges ((vertex 1, vertex 2, Int (pos 4) ∷ []) ∷ []))
+    × (content_of_four 1 1 ≡ Edges ((vertex 2, vertex 3, Int (pos 1) ∷ []) ∷ []))
+unfolding vertex checked_as four_statements with_numbers plan_of_four block content_of_four placed_values stop_of mix_of
+contents-of_edges = (refl, refl)
+
+-- a division by zero at vertex 5
+stop_at_five : BlockStop
+stop_at_five = record { key = row_key.Vertex (vertex 5); expr = 1; cause = cause.DivideByZero }
+
+-- the second part of `g` reads the second part of `t` and all edges, and is stopped if one of them is
+made-stopped : made_by four_statements (recipe_of kind.Vertices 3) 1 (Table [] ∷ Edges [] ∷ Stopped stop_at_five ∷ []) ≡ Stopped stop_at_five
+unfolding four_statements
+made-stopped = refl
