@@ -11,8 +11,8 @@ use Rattle.gx_index.specs.Ids.{has_id, is_same_id}
 use Rattle.gx_epart.specs.Edges.{edge_order_of, with_edge}
 use Rattle.gx_gops.specs.Tables.{both_ends}
 use Rattle.gx_model.specs.Graphs.{plain_edges}
-use Rattle.gx_exec.specs.PartContents.{part_of_edges}
-use Rattle.gx_exec.proofs.TableParts.{same_from_test}
+use Rattle.gx_exec_contents.specs.PartContents.{part_of_edges}
+use Rattle.gx_exec_contents.proofs.TableParts.{same_from_test}
 
 -- ---- whether some item passes a test
 

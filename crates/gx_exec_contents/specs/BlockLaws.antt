@@ -1,8 +1,8 @@
 -- Laws of contents.
 use Rattle.std.specs.Prelude.{◌≡◌, map}
-use Rattle.gx_exec.specs.BlockContents.{content_of, recipe_of_block}
-use Rattle.gx_exec.specs.MadeBlocks.{made_by}
-use Rattle.gx_exec.specs.Worlds.{IsSetting, World}
+use Rattle.gx_exec_contents.specs.BlockContents.{content_of, recipe_of_block}
+use Rattle.gx_exec_contents.specs.MadeBlocks.{made_by}
+use Rattle.gx_exec_contents.specs.Worlds.{IsSetting, World}
 use Rattle.gx_lineage.specs.Lineage.{IsBlock, block_inputs}
 use Rattle.gx_lineage.specs.declared.block_id.BlockId.{BlockId}
 use Rattle.gx_plan.specs.PlanInvariant.{IsFrontOf}

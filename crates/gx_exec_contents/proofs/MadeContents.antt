@@ -20,14 +20,14 @@ use Rattle.gx_plan.specs.declared.kind.Kind.TheVariants as kind
 use Rattle.gx_plan.specs.declared.recipe.Recipe.{Recipe}
 use Rattle.gx_types_stmts.specs.declared.typed_stmt.TypedStmt.{TypedStmt}
 use Rattle.gx_types_stmts.specs.declared.typed_stmt.TypedStmt.TheVariants as stmts
-use Rattle.gx_exec.specs.BlockContents.{content_of, fault_by, held_by, recipe_of_block, stop_of}
-use Rattle.gx_exec.specs.BlockLaws.{ContentsAreMade}
-use Rattle.gx_exec.specs.MadeBlocks.{made_by, made_kind}
-use Rattle.gx_exec.specs.PartContents.{BlockStop, Content, first_given, held_kind, stop_in, stop_or}
-use Rattle.gx_exec.specs.Worlds.{IsSetting, IsWorld, World, value_in}
-use Rattle.gx_exec.proofs.MadeStatements.{fed, made-kind}
-use Rattle.gx_exec.proofs.StatementValues.{IsStatement, is_statement, owned-value, value_in-stmt}
-use Rattle.gx_exec.proofs.StoppedBlocks.{stop_of-is}
+use Rattle.gx_exec_contents.specs.BlockContents.{content_of, fault_by, held_by, recipe_of_block, stop_of}
+use Rattle.gx_exec_contents.specs.BlockLaws.{ContentsAreMade}
+use Rattle.gx_exec_contents.specs.MadeBlocks.{made_by, made_kind}
+use Rattle.gx_exec_contents.specs.PartContents.{BlockStop, Content, first_given, held_kind, stop_in, stop_or}
+use Rattle.gx_exec_contents.specs.Worlds.{IsSetting, IsWorld, World, value_in}
+use Rattle.gx_exec_contents.proofs.MadeStatements.{fed, made-kind}
+use Rattle.gx_exec_contents.proofs.StatementValues.{IsStatement, is_statement, owned-value, value_in-stmt}
+use Rattle.gx_exec_contents.proofs.StoppedBlocks.{stop_of-is}
 
 -- ---- the inputs of a node hold what its recipe reads
 

@@ -5,10 +5,10 @@ use Rattle.std.specs.Option.{option_or}
 use Rattle.gx_lineage.specs.Lineage.{IsBlock, IsSound, block_inputs}
 use Rattle.gx_lineage.specs.declared.block_id.BlockId.{BlockId}
 use Rattle.gx_plan.specs.Plans.{Planned}
-use Rattle.gx_exec.specs.BlockContents.{fault_by, recipe_of_block, stop_of, stop_step}
-use Rattle.gx_exec.specs.Deep.{StepAlike, deep, deep_at}
-use Rattle.gx_exec.specs.PartContents.{BlockStop, first_given}
-use Rattle.gx_exec.specs.Worlds.{World}
+use Rattle.gx_exec_contents.specs.BlockContents.{fault_by, recipe_of_block, stop_of, stop_step}
+use Rattle.gx_exec_contents.specs.Deep.{StepAlike, deep, deep_at}
+use Rattle.gx_exec_contents.specs.PartContents.{BlockStop, first_given}
+use Rattle.gx_exec_contents.specs.Worlds.{World}
 
 module _ {K A : Type 0} (none : A) (step other : (K → A) → K → A) (rank : K → ℕ) (Here : K → Type 0) (alike : StepAlike step other rank Here) where
   -- more steps than the rank asks change nothing

@@ -34,13 +34,13 @@ use Rattle.gx_types_stmts.specs.declared.typed_stmt.TypedStmt.{TypedStmt}
 use Rattle.gx_types_stmts.specs.declared.typed_stmt.TypedStmt.TheVariants as stmts
 use Rattle.gx_vtable.specs.Kernels.{earliest_fault, faults_at, fault_if, rows_made}
 use Rattle.gx_vtable.specs.NewRows.{columns_at_vertex, id_at_vertex, mapped_row, values_at_vertex, vertex_id}
-use Rattle.gx_exec.specs.BlockContents.{value_in_part}
-use Rattle.gx_exec.specs.MadeBlocks.{completed, edges_held, made_kind, mapped}
-use Rattle.gx_exec.specs.PartContents.{Content, Edges, Table, fault_kind, held_kind, part_of_edges, part_of_vertices, stop_on_vertex, stop_or}
-use Rattle.gx_exec.specs.Worlds.{World, place_in, placed_values, value_in}
-use Rattle.gx_exec.proofs.EndsOfParts.{ArePlaced, ends_of_parts, has_id-filter}
-use Rattle.gx_exec.proofs.StatementValues.{value-placed}
-use Rattle.gx_exec.proofs.TableParts.{IsAscending-part, part-table_of_rows, part-with_default, part-with_new_rows, table_of-is}
+use Rattle.gx_exec_contents.specs.BlockContents.{value_in_part}
+use Rattle.gx_exec_contents.specs.MadeBlocks.{completed, edges_held, made_kind, mapped}
+use Rattle.gx_exec_contents.specs.PartContents.{Content, Edges, Table, fault_kind, held_kind, part_of_edges, part_of_vertices, stop_on_vertex, stop_or}
+use Rattle.gx_exec_contents.specs.Worlds.{World, place_in, placed_values, value_in}
+use Rattle.gx_exec_contents.proofs.EndsOfParts.{ArePlaced, ends_of_parts, has_id-filter}
+use Rattle.gx_exec_contents.proofs.StatementValues.{value-placed}
+use Rattle.gx_exec_contents.proofs.TableParts.{IsAscending-part, part-table_of_rows, part-with_default, part-with_new_rows, table_of-is}
 
 -- ---- what a node reads, if nothing is at fault
 

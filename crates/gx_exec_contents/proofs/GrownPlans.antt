@@ -7,12 +7,12 @@ use Rattle.gx_lineage.specs.Lineage.{IsBlock, block_inputs, blocks_of_input}
 use Rattle.gx_lineage.specs.declared.block_id.BlockId.{BlockId}
 use Rattle.gx_plan.specs.PlanInvariant.{IsFrontOf}
 use Rattle.gx_plan.specs.Plans.{Planned}
-use Rattle.gx_exec.specs.BlockContents.{fault_by, held_by, recipe_of_block, stop_of, stop_step}
-use Rattle.gx_exec.specs.BlockLaws.{ContentsAreKept}
-use Rattle.gx_exec.specs.Deep.{StepAlike}
-use Rattle.gx_exec.specs.PartContents.{first_given, stop_or}
-use Rattle.gx_exec.specs.Worlds.{IsSetting, World}
-use Rattle.gx_exec.proofs.StoppedBlocks.{deep_at-same, given-same}
+use Rattle.gx_exec_contents.specs.BlockContents.{fault_by, held_by, recipe_of_block, stop_of, stop_step}
+use Rattle.gx_exec_contents.specs.BlockLaws.{ContentsAreKept}
+use Rattle.gx_exec_contents.specs.Deep.{StepAlike}
+use Rattle.gx_exec_contents.specs.PartContents.{first_given, stop_or}
+use Rattle.gx_exec_contents.specs.Worlds.{IsSetting, World}
+use Rattle.gx_exec_contents.proofs.StoppedBlocks.{deep_at-same, given-same}
 
 slice_get-front : {X : Type 0} (xs ys : List X) (i : ℕ) → i < length xs → slice_get (xs ++ ys) i ≡ slice_get xs i
 slice_get-front [] ys i within = absurd (omega arith)

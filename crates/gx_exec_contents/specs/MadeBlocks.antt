@@ -1,8 +1,8 @@
 -- What is made of the contents of a block's inputs.
 use Rattle.std.specs.Prelude.{ℕ, List, [], ◌∷◌, ◌++◌, flat_map, option_map}
 use Rattle.gx_epart.specs.Edges.{edge_order_of}
-use Rattle.gx_exec.specs.PartContents.{Content, Edges, Table, first_given, part_of_edges, part_of_vertices, stop_in, stop_on_vertex, stop_or}
-use Rattle.gx_exec.specs.Worlds.{World, place_in}
+use Rattle.gx_exec_contents.specs.PartContents.{Content, Edges, Table, first_given, part_of_edges, part_of_vertices, stop_in, stop_on_vertex, stop_or}
+use Rattle.gx_exec_contents.specs.Worlds.{World, place_in}
 use Rattle.gx_gops.specs.Tables.{default_rows, ends_in_part, table_of}
 use Rattle.gx_model.specs.Graphs.{Vertex, placed_from}
 use Rattle.gx_model.specs.Values.{rows_loaded, vertices_loaded}

@@ -25,12 +25,12 @@ use Rattle.gx_rows.specs.declared.row_key.RowKey.TheVariants as row_key
 use Rattle.gx_rows.specs.declared.vid.Vid.{Vid}
 use Rattle.gx_types_stmts.specs.declared.typed_stmt.TypedStmt.{TypedStmt}
 use Rattle.gx_types_stmts.specs.declared.typed_stmt.TypedStmt.TheVariants as stmts
-use Rattle.gx_exec.specs.BlockContents.{value_in_part}
-use Rattle.gx_exec.specs.PartContents.{BlockStop, fault_kind, part_of_vertices, stop_on_vertex}
-use Rattle.gx_exec.specs.PhaseFaults.{FaultsAreOfModel, LeastAreFaults, fault_of_stop, key_cmp, least_over, lesser_of}
-use Rattle.gx_exec.specs.Worlds.{World, value_in}
-use Rattle.gx_exec.proofs.StatementValues.{value-placed}
-use Rattle.gx_exec.proofs.TableParts.{IsAscending-part}
+use Rattle.gx_exec_contents.specs.BlockContents.{value_in_part}
+use Rattle.gx_exec_contents.specs.PartContents.{BlockStop, fault_kind, part_of_vertices, stop_on_vertex}
+use Rattle.gx_exec_contents.specs.PhaseFaults.{FaultsAreOfModel, LeastAreFaults, fault_of_stop, key_cmp, least_over, lesser_of}
+use Rattle.gx_exec_contents.specs.Worlds.{World, value_in}
+use Rattle.gx_exec_contents.proofs.StatementValues.{value-placed}
+use Rattle.gx_exec_contents.proofs.TableParts.{IsAscending-part}
 
 -- ---- the least of stops over parts
 

@@ -14,7 +14,7 @@ use Rattle.gx_model.specs.Graphs.{Vertex, first_row_of, table_of_rows, vertex_if
 use Rattle.gx_model.proofs.Tables.{IsAscending-table, first_row_of-table, table_from_look_ups, with_default}
 use Rattle.gx_gops.specs.Tables.{is_in_part, table_of}
 use Rattle.gx_gops.specs.TableLaws.{table_of-unique}
-use Rattle.gx_exec.specs.PartContents.{part_of_vertices}
+use Rattle.gx_exec_contents.specs.PartContents.{part_of_vertices}
 
 pub same_from_test : (q k : Vid) → is_same_id q k ≡ true → k ≡ q
 same_from_test q k same = sym (id_cmp-exact q k ((Equal-is (id_cmp q k)).0 same))

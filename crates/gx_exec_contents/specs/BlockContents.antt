@@ -1,9 +1,9 @@
 -- The content of each block of a planned script.
 use Rattle.std.specs.Prelude.{ℕ, Option, None}
 use Rattle.std.specs.Option.{option_or}
-use Rattle.gx_exec.specs.Deep.{deep_at}
-use Rattle.gx_exec.specs.PartContents.{BlockStop, Content, fault_kind, first_given, held_kind, part_of_value, stop_or}
-use Rattle.gx_exec.specs.Worlds.{World, value_in}
+use Rattle.gx_exec_contents.specs.Deep.{deep_at}
+use Rattle.gx_exec_contents.specs.PartContents.{BlockStop, Content, fault_kind, first_given, held_kind, part_of_value, stop_or}
+use Rattle.gx_exec_contents.specs.Worlds.{World, value_in}
 use Rattle.gx_lineage.specs.Lineage.{block_inputs}
 use Rattle.gx_lineage.specs.declared.block_id.BlockId.{BlockId}
 use Rattle.gx_model.specs.Graphs.{Graph}

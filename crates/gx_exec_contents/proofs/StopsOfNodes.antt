@@ -6,12 +6,12 @@ use Rattle.std.specs.Option.{option_or}
 use Rattle.gx_lineage.specs.Lineage.{IsBlock, block_inputs}
 use Rattle.gx_lineage.specs.declared.block_id.BlockId.{BlockId}
 use Rattle.gx_plan.specs.Plans.{Planned, recipe_at}
-use Rattle.gx_exec.specs.BlockContents.{fault_by, recipe_of_block, stop_of}
-use Rattle.gx_exec.specs.PartContents.{BlockStop, first_given}
-use Rattle.gx_exec.specs.PhaseFaults.{AreQuietBelow, QuietNodesGoOn, StopsAreFaults, least_over, lesser_of}
-use Rattle.gx_exec.specs.Worlds.{IsSetting, World}
-use Rattle.gx_exec.proofs.LeastOfParts.{least-are_faults}
-use Rattle.gx_exec.proofs.StoppedBlocks.{stop_of-is}
+use Rattle.gx_exec_contents.specs.BlockContents.{fault_by, recipe_of_block, stop_of}
+use Rattle.gx_exec_contents.specs.PartContents.{BlockStop, first_given}
+use Rattle.gx_exec_contents.specs.PhaseFaults.{AreQuietBelow, QuietNodesGoOn, StopsAreFaults, least_over, lesser_of}
+use Rattle.gx_exec_contents.specs.Worlds.{IsSetting, World}
+use Rattle.gx_exec_contents.proofs.LeastOfParts.{least-are_faults}
+use Rattle.gx_exec_contents.proofs.StoppedBlocks.{stop_of-is}
 
 given-none : (f : BlockId → Option BlockStop) (bs : List BlockId) → ((b : BlockId) → Contains bs b → f b ≡ None) → first_given f bs ≡ None
 given-none f [] none = refl

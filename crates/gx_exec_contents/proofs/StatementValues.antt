@@ -23,10 +23,10 @@ use Rattle.gx_rows.specs.Order.{Edge}
 use Rattle.gx_types_stmts.specs.declared.checked_stmt.CheckedStmt.{CheckedStmt}
 use Rattle.gx_types_stmts.specs.declared.typed_stmt.TypedStmt.{TypedStmt}
 use Rattle.gx_types_stmts.specs.declared.typed_stmt.TypedStmt.TheVariants as stmts
-use Rattle.gx_exec.specs.PartContents.{held_kind}
-use Rattle.gx_exec.specs.Worlds.{IsWorld, World, is_modelled, place_in, placed_values, stmts_of, value_in}
-use Rattle.gx_exec.proofs.EndsOfParts.{ArePlaced}
-use Rattle.gx_exec.proofs.TableParts.{IsAscending-with_new_rows}
+use Rattle.gx_exec_contents.specs.PartContents.{held_kind}
+use Rattle.gx_exec_contents.specs.Worlds.{IsWorld, World, is_modelled, place_in, placed_values, stmts_of, value_in}
+use Rattle.gx_exec_contents.proofs.EndsOfParts.{ArePlaced}
+use Rattle.gx_exec_contents.proofs.TableParts.{IsAscending-with_new_rows}
 
 -- ---- order and places
 

@@ -20,10 +20,10 @@ use Rattle.gx_types_stmts.specs.StmtNumbers.{named_numbers}
 use Rattle.gx_types_stmts.specs.declared.checked_stmt.CheckedStmt.{CheckedStmt}
 use Rattle.gx_types_stmts.specs.declared.typed_stmt.TypedStmt.{TypedStmt}
 use Rattle.gx_types_stmts.specs.declared.typed_stmt.TypedStmt.TheVariants as stmts
-use Rattle.gx_exec.specs.BlockContents.{content_of, stop_of}
-use Rattle.gx_exec.specs.MadeBlocks.{made_by}
-use Rattle.gx_exec.specs.PartContents.{BlockStop, Content, Edges, Stopped, Table}
-use Rattle.gx_exec.specs.Worlds.{World, placed_values}
+use Rattle.gx_exec_contents.specs.BlockContents.{content_of, stop_of}
+use Rattle.gx_exec_contents.specs.MadeBlocks.{made_by}
+use Rattle.gx_exec_contents.specs.PartContents.{BlockStop, Content, Edges, Stopped, Table}
+use Rattle.gx_exec_contents.specs.Worlds.{World, placed_values}
 
 vertex : ℕ → Vid
 vertex n = record { 0 = pos n }

@@ -19,9 +19,9 @@ use Rattle.gx_rows.specs.declared.fault.Fault.{Fault}
 use Rattle.gx_rows.specs.declared.row_key.RowKey.{RowKey}
 use Rattle.gx_rows.specs.declared.row_key.RowKey.TheVariants.{Vertex, Edge}
 use Rattle.gx_types_stmts.specs.declared.typed_stmt.TypedStmt.{TypedStmt}
-use Rattle.gx_exec.specs.BlockContents.{fault_by, stop_of}
-use Rattle.gx_exec.specs.PartContents.{BlockStop, fault_kind}
-use Rattle.gx_exec.specs.Worlds.{IsSetting, IsWorld, World, placed_values, value_in}
+use Rattle.gx_exec_contents.specs.BlockContents.{fault_by, stop_of}
+use Rattle.gx_exec_contents.specs.PartContents.{BlockStop, fault_kind}
+use Rattle.gx_exec_contents.specs.Worlds.{IsSetting, IsWorld, World, placed_values, value_in}
 
 -- vertices by their identifiers, edges in edge order, and vertices before edges
 abbrev pub key_cmp : RowKey → RowKey → Ordering
