@@ -1,0 +1,36 @@
+-- The state of an engine and its cluster between calls.
+use Rattle.std.specs.Prelude.{◌≡◌, ℕ, ◌-◌, ◌≤◌, ◌<◌, List, [], ◌∷◌, Option, None, Some, length, replicate}
+use Rattle.std.specs.List.{AllByRecursion}
+use Rattle.gx_cluster.specs.States.{HoldsContents, State, shape}
+use Rattle.gx_cluster_state.specs.Runs.{Point}
+use Rattle.gx_exec_contents.specs.PhaseFaults.{AreQuietBelow}
+use Rattle.gx_exec_contents.specs.Worlds.{World, placed_values, stmts_of}
+use Rattle.gx_exec_work.specs.Works.{IsContentOf, PlannedWorld}
+use Rattle.gx_exec_work.specs.declared.block.Block.{Block}
+use Rattle.gx_model.specs.ScriptMeaning.{Loaded, fault_of_number}
+use Rattle.gx_plan.specs.Plans.{IsAdded, Planned}
+use Rattle.gx_types_stmts.specs.StmtNumbers.{named_numbers}
+use Rattle.gx_plan.specs.StmtNodes.{statement_of}
+
+-- the script with its rows, as the model has them
+abbrev pub loaded_of : World → Loaded
+loaded_of w = record { checked = w.script; loads = w.loads }
+
+-- no block of the plan is stopped, and no statement that was added has a fault
+pub record IsSteady (e : PlannedWorld) : Type 0 where
+  pub quiet : AreQuietBelow e.world e.planned (length e.planned.lineage.nodes)
+  pub clean : (s : ℕ) → IsAdded e.planned s → fault_of_number (loaded_of e.world) s ≡ None
+
+-- each block that the cluster holds or has captured is a content
+abbrev pub HoldsWorkOf : PlannedWorld → State Block → Type 0
+HoldsWorkOf e c = HoldsContents (IsContentOf e) e.planned.lineage c
+
+-- a cluster and a schedule without events
+abbrev pub point_of : State Block → Point
+point_of c = record { shape = shape c; events = [] }
+
+-- statement s, counted from 1, of which all named statements were added
+pub record MayForce (e : PlannedWorld) (s : ℕ) : Type 0 where
+  pub from_one : 1 ≤ s
+  pub within : s ≤ length e.world.script
+  pub named : AllByRecursion (IsAdded e.planned) (named_numbers (statement_of e.world.script s))

@@ -1,0 +1,1 @@
+-- What an action prints, read from the blocks that a cluster holds.

@@ -1,0 +1,162 @@
+//! The work of a planned script.
+
+ghost use Rattle.std.specs.Prelude.{◌≡◌, ◌≤◌, ◌-◌, IfOk, None, OnErr, OnOk, get_or, length};
+ghost use Rattle.std.specs.List.{AllByRecursion};
+ghost use Rattle.gx_cluster_state.specs.Values.{pointed_values};
+ghost use Rattle.gx_exec_contents.specs.MadeBlocks.{made_by};
+ghost use Rattle.gx_exec_contents.specs.BlockContents.{recipe_of_block};
+ghost use Rattle.gx_exec_contents.specs.Worlds.{IsSetting};
+ghost use Rattle.gx_exec_work.specs.Works.{FitsBlock, IsContentOf, freight_of, shown_blocks};
+ghost use Rattle.gx_exec_work.proofs.FittingInputs.{contents_of_inputs-fit};
+ghost use Rattle.gx_plan.specs.PlanInvariant.{IsFrontOf};
+ghost use Rattle.gx_plan.specs.Plans.{IsAdded, empty_plan, with_number};
+ghost use Rattle.gx_plan.specs.StmtNodes.{statement_of};
+ghost use Rattle.gx_types_stmts.specs.StmtNumbers.{named_numbers};
+
+use crate::Block;
+use gx_cluster::{Cargo, Work};
+use gx_cuts::Cut;
+use gx_lineage::{BlockId, Dag};
+use gx_load::Loads;
+use gx_plan::Plan;
+use gx_rows::NoMemory;
+use gx_types::Typed;
+use std::alloc::Global;
+use std::marker::Model;
+use std::rc::Rc;
+
+/// The work of a script: its loaded rows, and the plan of the statements that were added. Contracts
+/// see it as the world and what was planned.
+#[derive(Drop)]
+pub struct GraphWork {
+    plan: Plan,
+    loads: Loads,
+    alloc: Global,
+}
+
+impl Model for GraphWork {
+    ghost use Rattle.gx_exec_work.specs.Works.{PlannedWorld};
+    ghost use Rattle.gx_exec_contents.specs.Worlds.{IsSetting};
+    ghost use Rattle.std.specs.Coded.{codes};
+    ghost use Rattle.gx_expr.specs.contracts.expr.Expr as expr;
+
+    ghost Value = { PlannedWorld };
+
+    ghost coded = { Prim.hlevel (codes, expr.the_row.coded) };
+
+    ghost view = { λ g. record {
+      world = record {
+        script = g.plan.script;
+        loads = g.loads;
+        parts = g.plan.planned.lineage.parts;
+        cut = g.plan.cut;
+      };
+      planned = g.plan.planned;
+    } };
+
+    ghost invariant = { λ g. IsSetting
+      (record {
+        script = g.plan.script;
+        loads = g.loads;
+        parts = g.plan.planned.lineage.parts;
+        cut = g.plan.cut;
+      })
+      g.plan.planned };
+}
+
+impl GraphWork {
+    /// The work of a script with its loaded rows, of which no statement was added. Each node will
+    /// have `parts` parts, and the edges of loads are placed by `cut`.
+    ///
+    /// # Errors
+    ///
+    /// `NoMemory` if memory for the plan or for the places of the rows runs out.
+    pub fn new(
+        alloc: Global,
+        typed: Typed,
+        loads: Loads,
+        parts: u32,
+        cut: Cut,
+    ) -> Result<GraphWork, NoMemory>
+        requires nonzero { 1 ≤ parts }
+        requires within_limit { parts ≤ 64 }
+        ensures { IfOk result (λ work. work ≡ record {
+          world = record { script = typed; loads = loads; parts = parts; cut = cut };
+          planned = empty_plan parts (length typed);
+        }) }
+    {
+        let _ = alloc;
+        let _ = typed;
+        let _ = loads;
+        let _ = parts;
+        let _ = cut;
+        Err(NoMemory)
+    }
+
+    /// The plan.
+    pub fn plan(&self) -> &Plan
+        ensures script { result.now.script ≡ self.now.world.script }
+        ensures cut { result.now.cut ≡ self.now.world.cut }
+        ensures planned { result.now.planned ≡ self.now.planned }
+    {
+        &self.plan
+    }
+
+    /// Tells the law of each work: its world may be run, and the plan is one of its script. It does
+    /// nothing.
+    pub fn is_set(&self)
+        ensures { IsSetting self.now.world self.now.planned }
+    {
+        let _ = &self.plan;
+    }
+
+    /// Adds statement `s`, counted from 1, to the plan: all statements that it names were added, and
+    /// it was not.
+    ///
+    /// # Errors
+    ///
+    /// `NoMemory` if memory for the nodes runs out. The plan is then unchanged.
+    pub fn extend(&mut self, s: u32) -> Result<(), NoMemory>
+        requires from_one { 1 ≤ s }
+        requires within { s ≤ length self.old.world.script }
+        requires fresh { get_or self.old.planned.results (s - 1) None ≡ None }
+        requires named { AllByRecursion (IsAdded self.old.planned)
+            (named_numbers (statement_of self.old.world.script s)) }
+        ensures added { OnOk result (self.new ≡ record self.old {
+          planned = with_number self.old.world.script self.old.planned s;
+        }) }
+        ensures front { OnOk result (IsFrontOf self.old.planned self.new.planned) }
+        ensures unchanged { OnErr result (self.new ≡ self.old) }
+    {
+        let _ = s;
+        Err(NoMemory)
+    }
+}
+
+impl Work<Block> for GraphWork {
+    ghost lineage = { λ e. e.planned.lineage };
+
+    ghost content = { λ e b t. IsContentOf e b t };
+
+    ghost fits = { λ e b ts. FitsBlock e b ts };
+
+    ghost freight = { λ e b. freight_of e.world e.planned b };
+
+    fn dag(&self) -> &Dag {
+        self.is_set();
+        self.plan.dag()
+    }
+
+    fn run(&self, b: BlockId, inputs: &[Rc<Block>]) -> Result<Block, NoMemory> {
+        let _ = b;
+        let _ = inputs;
+        Err(NoMemory)
+    }
+
+    fn cargo(&self, b: BlockId, value: &Block) -> Result<Cargo, NoMemory> {
+        let _ = b;
+        let _ = value;
+        Ok(Cargo::of(Vec::new(self.alloc)))
+    }
+    ghost fits_contents = { λ e b ts block h. contents_of_inputs-fit e b ts block h };
+}
