@@ -1,0 +1,53 @@
+-- Internal: words of private functions, and the view of the result.
+use Rattle.std.specs.Prelude.{◌≡◌, ℕ, ◌∷◌, [], ◌++◌, List, Option, None, Some}
+use Rattle.std.specs.List.{filter_map}
+use Rattle.std.specs.Option.{option_and_then, option_map}
+use Rattle.gx_run_args.specs.RunCommands.{Argument, script_name, part_count, edge_cut, worker_count, RunCommand, count_of, cut_named, command_from, arguments_of, script_in, parts_in, cut_in, workers_in}
+use Rattle.gx_run_args.specs.declared.command.RunArgs.{RunArgs}
+use Rattle.gx_run_args.specs.declared.options.OptionName.{OptionName}
+use Rattle.gx_run_args.specs.declared.options.OptionName.TheVariants as names
+use Rattle.gx_run_args.specs.declared.options.Options.{Options}
+
+-- the result as a command
+abbrev pub command_seen : RunArgs → RunCommand
+command_seen args = record { script = args.script.now; parts = args.parts; cut = args.cut; workers = args.workers }
+
+-- how the value of an option is read
+abbrev pub reading_of : OptionName → List ℕ → Option Argument
+reading_of names.Parts value = option_map part_count (count_of value)
+reading_of names.Cut value = option_map edge_cut (cut_named value)
+reading_of names.Workers value = option_map worker_count (count_of value)
+
+abbrev pub no_options : Options
+no_options = record { parts = None; cut = None; workers = None }
+
+-- the value of an option that has none so far
+abbrev pub new_value : {A B : Type 0} → Option A → B → Option B
+new_value None with_value = Some with_value
+new_value (Some value) with_value = None
+
+-- one more option
+abbrev pub options_with : Options → Option Argument → Option Options
+options_with options None = None
+options_with options (Some (script_name name)) = None
+options_with options (Some (part_count n)) = new_value options.parts (record options { parts = Some n })
+options_with options (Some (edge_cut cut)) = new_value options.cut (record options { cut = Some cut })
+options_with options (Some (worker_count n)) = new_value options.workers (record options { workers = Some n })
+
+-- a list of the value, if there is one
+abbrev pub list_of_option : {A : Type 0} → Option A → List A
+list_of_option None = []
+list_of_option (Some value) = value ∷ []
+
+-- the command of what was given, and of these arguments after it
+abbrev pub command_with : Option (List ℕ) → Options → List Argument → Option RunCommand
+command_with script options arguments =
+    command_from
+    (list_of_option script ++ filter_map script_in arguments)
+    (list_of_option options.parts ++ filter_map parts_in arguments)
+    (list_of_option options.cut ++ filter_map cut_in arguments)
+    (list_of_option options.workers ++ filter_map workers_in arguments)
+
+-- the command of what was given, and of these words after it
+unfoldable pub command_after : Option (List ℕ) → Options → List (List ℕ) → Option RunCommand
+command_after script options words = option_and_then (command_with script options) (arguments_of words)

@@ -1,0 +1,75 @@
+//! The command that the words of a command line are: a walk over the words, which collects what they
+//! say, and then the defaults.
+
+ghost use Rattle.std.specs.Prelude.{◌≡◌, ◌≤◌, ◌==◌, IfSome, option_and_then, option_map, slice_index};
+ghost use Rattle.gx_run_args.specs.RunCommands.{arg_bytes, arguments_of, command_of, run_command};
+ghost use Rattle.gx_run_args.specs.GivenOptions.{command_seen};
+
+use crate::options::{OptionName, Options};
+use gx_cuts::Cut;
+
+/// The command `run`: which script, how many partitions, which cut, how many workers.
+pub struct RunArgs<'a> {
+    /// The name of the script's file.
+    pub script: &'a str,
+    /// The number of partitions, from 1 to 64.
+    pub parts: u32,
+    /// The strategy that places edges.
+    pub cut: Cut,
+    /// The number of workers, from 1 to 64.
+    pub workers: u32,
+}
+
+/// The command that these words are, the ones after the program's name; `None` if they are none.
+/// It takes no memory.
+pub fn run_args(args: &[String]) -> Option<RunArgs<'_>>
+    ensures exact { option_map command_seen result ≡ run_command (arg_bytes args.now) }
+    ensures parts_in_range { IfSome result (λ args. (1 ≤ args.parts) × (args.parts ≤ 64)) }
+    ensures workers_in_range { IfSome result (λ args. (1 ≤ args.workers) × (args.workers ≤ 64)) }
+{
+    match args {
+        [command, words @ ..] if command.as_str() == "run" => run_args_after(words),
+        _ => None,
+    }
+}
+
+// The command that these words are after the word `run`.
+fn run_args_after(words: &[String]) -> Option<RunArgs<'_>>
+    ensures exact { option_map command_seen result
+        ≡ option_and_then command_of (arguments_of (arg_bytes words.now)) }
+{
+    let mut script: Option<&str> = None;
+    let mut options = Options::none();
+    let mut rest = words;
+    while let [word, after @ ..] = rest {
+        if let Some(name) = OptionName::of_word(word.as_str()) {
+            let [value, others @ ..] = after else {
+                return None;
+            };
+            options = options.with(name, value.as_str())?;
+            rest = others;
+        } else {
+            if script.is_some() || begins_with_dash(word.as_str()) {
+                return None;
+            }
+            script = Some(word.as_str());
+            rest = after;
+        }
+    }
+    Some(RunArgs {
+        script: script?,
+        parts: options.parts.unwrap_or(4),
+        cut: options.cut.unwrap_or(Cut::TwoD),
+        workers: options.workers.unwrap_or(4),
+    })
+}
+
+// Whether a word begins with `-`.
+fn begins_with_dash(word: &str) -> bool
+    ensures { result ≡ (slice_index word.now 0 == 45) }
+{
+    match word.as_bytes() {
+        [first, ..] => *first == b'-',
+        [] => false,
+    }
+}

@@ -1,0 +1,1 @@
+//! Words that are a command, and words that are none.
