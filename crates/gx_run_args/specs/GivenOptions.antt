@@ -1,5 +1,5 @@
 -- Internal: words of private functions, and the view of the result.
-use Rattle.std.specs.Prelude.{◌≡◌, ℕ, ◌∷◌, [], ◌++◌, List, Option, None, Some}
+use Rattle.std.specs.Prelude.{◌≡◌, ℕ, ◌≤◌, ◌∷◌, [], ◌++◌, List, Option, None, Some, IfSome}
 use Rattle.std.specs.List.{filter_map}
 use Rattle.std.specs.Option.{option_and_then, option_map}
 use Rattle.gx_run_args.specs.RunCommands.{Argument, script_name, part_count, edge_cut, worker_count, RunCommand, count_of, cut_named, command_from, arguments_of, script_in, parts_in, cut_in, workers_in}
@@ -20,6 +20,11 @@ reading_of names.Workers value = option_map worker_count (count_of value)
 
 abbrev pub no_options : Options
 no_options = record { parts = None; cut = None; workers = None }
+
+-- the counts that were given are from 1 to 64
+pub record HasCounts (options : Options) : Type 0 where
+  pub parts_in_range : IfSome options.parts (λ parts. (1 ≤ parts) × (parts ≤ 64))
+  pub workers_in_range : IfSome options.workers (λ workers. (1 ≤ workers) × (workers ≤ 64))
 
 -- the value of an option that has none so far
 abbrev pub new_value : {A B : Type 0} → Option A → B → Option B

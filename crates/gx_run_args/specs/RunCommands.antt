@@ -1,8 +1,8 @@
 -- The command that the words of a command line are.
 use Rattle.std.specs.Prelude.{◌≡◌, ℕ, ◌∷◌, [], Bool, ◌&&◌, nat_le, if◌then◌else◌, List, length, map, String, codes, string_bytes, bytes_eq, slice_index, ◌==◌, Option, None, Some, refl}
-use Rattle.std.specs.List.{filter_map}
+use Rattle.std.specs.List.{filter_map, list_all}
 use Rattle.std.specs.Option.{option_and_then, option_map}
-use Rattle.std.specs.Str.{all_ascii_digits}
+use Rattle.std.specs.Char.{is_ascii_digit}
 use Rattle.std.specs.Str.Parse.{digits_value}
 use Rattle.std.specs.declared.alloc.Global.{Global}
 use Rattle.gx_cuts.specs.declared.cut.Cut.{Cut}
@@ -33,7 +33,7 @@ is_between least most n = nat_le least n && nat_le n most
 
 -- a count is spelled by 1 to 20 digits, and is from 1 to 64
 abbrev pub is_count : List ℕ → Bool
-is_count text = is_between 1 20 (length text) && (all_ascii_digits text && is_between 1 64 (digits_value 10 text))
+is_count text = is_between 1 20 (length text) && (list_all is_ascii_digit text && is_between 1 64 (digits_value 10 text))
 
 -- the count that a text spells
 abbrev pub count_of : List ℕ → Option ℕ

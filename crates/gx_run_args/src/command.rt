@@ -37,6 +37,8 @@ pub fn run_args(args: &[String]) -> Option<RunArgs<'_>>
 fn run_args_after(words: &[String]) -> Option<RunArgs<'_>>
     ensures exact { option_map command_seen result
         ≡ option_and_then command_of (arguments_of (arg_bytes words.now)) }
+    ensures parts_in_range { IfSome result (λ args. (1 ≤ args.parts) × (args.parts ≤ 64)) }
+    ensures workers_in_range { IfSome result (λ args. (1 ≤ args.workers) × (args.workers ≤ 64)) }
 {
     let mut script: Option<&str> = None;
     let mut options = Options::none();

@@ -1,9 +1,10 @@
 //! The options of the command, the values that they take, and those that were given so far.
 
-ghost use Rattle.std.specs.Prelude.{◌≡◌, option_map};
-ghost use Rattle.std.specs.Str.{all_ascii_digits};
+ghost use Rattle.std.specs.Prelude.{◌≡◌, ◌≤◌, IfSome, option_map};
+ghost use Rattle.std.specs.Char.{is_ascii_digit};
+ghost use Rattle.std.specs.List.{list_all};
 ghost use Rattle.gx_run_args.specs.RunCommands.{count_of, cut_named, option_reading};
-ghost use Rattle.gx_run_args.specs.GivenOptions.{no_options, options_with, reading_of};
+ghost use Rattle.gx_run_args.specs.GivenOptions.{HasCounts, no_options, options_with, reading_of};
 
 use gx_cuts::Cut;
 
@@ -51,7 +52,8 @@ impl Options {
 
     /// One more option, with its value; `None` if it has a value or cannot have this one.
     pub(crate) fn with(self, name: OptionName, value: &str) -> Option<Options>
-        ensures { result ≡ options_with self (reading_of name value.now) }
+        ensures exact { result ≡ options_with self (reading_of name value.now) }
+        ensures in_range { HasCounts self → IfSome result HasCounts }
     {
         match name {
             OptionName::Parts if self.parts.is_none() => Some(Options {
@@ -73,7 +75,8 @@ impl Options {
 
 // The count that a word spells: 1 to 20 digits, of a value from 1 to 64.
 fn count_of(word: &str) -> Option<u32>
-    ensures { result ≡ count_of word.now }
+    ensures exact { result ≡ count_of word.now }
+    ensures in_range { IfSome result (λ count. (1 ≤ count) × (count ≤ 64)) }
 {
     if word.len() > 20 || !is_digits(word) {
         return None;
@@ -86,7 +89,7 @@ fn count_of(word: &str) -> Option<u32>
 
 // Whether a word has digits alone.
 fn is_digits(word: &str) -> bool
-    ensures { result ≡ all_ascii_digits word.now }
+    ensures { result ≡ list_all is_ascii_digit word.now }
 {
     word.as_bytes().iter().all(|byte| byte.is_ascii_digit())
 }
