@@ -115,12 +115,12 @@ abbrev pub command_from : List (List ℕ) → List ℕ → List Cut → List ℕ
 command_from scripts parts cuts workers =
     option_and_then
     (λ script. option_and_then
-      (λ parts. option_and_then
-        (λ cut. option_map
-          (λ workers. record { script = script; parts = parts; cut = cut; workers = workers })
-          (single_value_or 4 workers))
-        (single_value_or TwoD cuts))
-      (single_value_or 4 parts))
+    (λ parts. option_and_then
+    (λ cut. option_map
+    (λ workers. record { script = script; parts = parts; cut = cut; workers = workers })
+    (single_value_or 4 workers))
+    (single_value_or TwoD cuts))
+    (single_value_or 4 parts))
     (single_value scripts)
 
 -- the command of these arguments: one script, and each option at most once
@@ -195,4 +195,3 @@ run_command-sign = refl
 run_command-other_command : run_command (codes "show" ∷ codes "s" ∷ []) ≡ None
 unfolding run_command arguments_of
 run_command-other_command = refl
-

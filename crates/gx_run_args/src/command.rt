@@ -24,12 +24,16 @@ pub struct RunArgs<'a> {
 /// It takes no memory.
 pub fn run_args(args: &[String]) -> Option<RunArgs<'_>>
     ensures exact { option_map command_seen result ≡ run_command (arg_bytes args.now) }
-    ensures parts_in_range { IfSome result (λ args. (1 ≤ args.parts) × (args.parts ≤ 64)) }
-    ensures workers_in_range { IfSome result (λ args. (1 ≤ args.workers) × (args.workers ≤ 64)) }
+    ensures parts_in_range { IfSome result (λ run. (1 ≤ run.parts) × (run.parts ≤ 64)) }
+    ensures workers_in_range { IfSome result (λ run. (1 ≤ run.workers) × (run.workers ≤ 64)) }
 {
-    match args {
-        [command, words @ ..] if command.as_str() == "run" => run_args_after(words),
-        _ => None,
+    let [command, words @ ..] = args else {
+        return None;
+    };
+    if command.as_str() == "run" {
+        run_args_after(words)
+    } else {
+        None
     }
 }
 
@@ -37,24 +41,25 @@ pub fn run_args(args: &[String]) -> Option<RunArgs<'_>>
 fn run_args_after(words: &[String]) -> Option<RunArgs<'_>>
     ensures exact { option_map command_seen result
         ≡ option_and_then command_of (arguments_of (arg_bytes words.now)) }
-    ensures parts_in_range { IfSome result (λ args. (1 ≤ args.parts) × (args.parts ≤ 64)) }
-    ensures workers_in_range { IfSome result (λ args. (1 ≤ args.workers) × (args.workers ≤ 64)) }
+    ensures parts_in_range { IfSome result (λ run. (1 ≤ run.parts) × (run.parts ≤ 64)) }
+    ensures workers_in_range { IfSome result (λ run. (1 ≤ run.workers) × (run.workers ≤ 64)) }
 {
     let mut script: Option<&str> = None;
     let mut options = Options::none();
     let mut rest = words;
     while let [word, after @ ..] = rest {
-        if let Some(name) = OptionName::of_word(word.as_str()) {
+        let word = word.as_str();
+        if let Some(name) = OptionName::of_word(word) {
             let [value, others @ ..] = after else {
                 return None;
             };
             options = options.with(name, value.as_str())?;
             rest = others;
         } else {
-            if script.is_some() || begins_with_dash(word.as_str()) {
+            if script.is_some() || begins_with_dash(word) {
                 return None;
             }
-            script = Some(word.as_str());
+            script = Some(word);
             rest = after;
         }
     }
