@@ -7,13 +7,13 @@ use Rattle.std.specs.Char.{is_ascii_digit}
 use Rattle.std.specs.List.{list_all}
 use Rattle.std.specs.Result.{OkIff}
 use Rattle.std.specs.Str.Parse.{ParsesUnsigned, digits_value}
-use Rattle.gx_run_args.specs.RunCommands.{count_of, is_between}
+use Rattle.gx_run_args.specs.RunCommands.{count_value, is_between}
 
 digits : IsNumeralModel (λ ds. list_all is_ascii_digit ds ≡ true) (digits_value 10)
 digits = numerals_by_value (λ ds. list_all is_ascii_digit ds ≡ true) (search rules)
 
 -- if one of the tests fails, the text spells no count
-no_count : (text : List ℕ) → (1 ≤ length text → length text ≤ 20 → list_all is_ascii_digit text ≡ true → 1 ≤ digits_value 10 text → digits_value 10 text ≤ 64 → ⊥) → count_of text ≡ None
+no_count : (text : List ℕ) → (1 ≤ length text → length text ≤ 20 → list_all is_ascii_digit text ≡ true → 1 ≤ digits_value 10 text → digits_value 10 text ≤ 64 → ⊥) → count_value text ≡ None
 no_count text h =
     go (nat_le 1 (length text)) (nat_le (length text) 20) (list_all is_ascii_digit text) (nat_le 1 (digits_value 10 text)) (nat_le (digits_value 10 text) 64)
     (λ a b c d e. h (leb-true _ _ a) (leb-true _ _ b) c (leb-true _ _ d) (leb-true _ _ e))
@@ -28,6 +28,6 @@ no_count text h =
     go false b c d e _ = refl
 
 -- digits that are not parsed spell no number of 32 bits, so no count
-pub count_of-unparsed : {E : Type 0} (text : List ℕ) (e : E) → ParsesUnsigned 32 10 text (Err e) → None ≡ count_of text
-count_of-unparsed text e h =
+pub count_value-unparsed : {E : Type 0} (text : List ℕ) (e : E) → ParsesUnsigned 32 10 text (Err e) → None ≡ count_value text
+count_value-unparsed text e h =
     sym (no_count text (λ some short all least most. parse_digits digits 32 text (Err e) h all (some, omega arith)))

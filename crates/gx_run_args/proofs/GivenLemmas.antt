@@ -7,8 +7,8 @@ use Rattle.std.specs.declared.alloc.Global.{Global}
 use Rattle.std.proofs.Math.Seq.{take-length}
 use Rattle.gx_cuts.specs.declared.cut.Cut.{Cut}
 use Rattle.gx_cuts.specs.declared.cut.Cut.TheVariants.{TwoD}
-use Rattle.gx_run_args.specs.RunCommands.{Argument, script_name, part_count, edge_cut, worker_count, RunCommand, arg_bytes, arguments_of, command_from, command_of, count_of, cut_named, option_reading, script_reading, script_in, parts_in, cut_in, single_value, single_value_or, run_command, with_argument}
-use Rattle.gx_run_args.specs.GivenOptions.{command_after, command_with, list_of_option, no_options, options_with, reading_of}
+use Rattle.gx_run_args.specs.RunCommands.{Argument, script_name, part_count, edge_cut, worker_count, RunCommand, arg_bytes, arguments_of, single_command, command_of, count_value, cut_named, option_reading, script_reading, given_script, given_parts, given_cut, single_value, single_value_or, run_command, with_argument}
+use Rattle.gx_run_args.specs.GivenOptions.{pending_command, joint_command, list_of_option, no_options, options_with, value_reading}
 use Rattle.gx_run_args.specs.declared.options.OptionName.{OptionName}
 use Rattle.gx_run_args.specs.declared.options.OptionName.TheVariants as names
 use Rattle.gx_run_args.specs.declared.options.Options.{Options}
@@ -49,96 +49,96 @@ arguments_of-last_option word read reading = rw (reading, arguments_of) refl
 
 -- a name before others is the script's
 script-given : (options : Options) (word : List ℕ) (after : List (List ℕ)) → option_reading word ≡ None → (slice_index word 0 == 45) ≡ false
-    → command_after None options (word ∷ after) ≡ command_after (Some word) options after
-unfolding command_after
+    → pending_command None options (word ∷ after) ≡ pending_command (Some word) options after
+unfolding pending_command
 script-given options word after reading name =
     let read : script_reading word ≡ Some (script_name word) = rw name refl in
     rw (arguments_of-word word after reading, read) (go (arguments_of after))
   where
-    go : (others : Option (List Argument)) → option_and_then (command_with None options) (with_argument (Some (script_name word)) others) ≡ option_and_then (command_with (Some word) options) others
+    go : (others : Option (List Argument)) → option_and_then (joint_command None options) (with_argument (Some (script_name word)) others) ≡ option_and_then (joint_command (Some word) options) others
     go None = refl
     go (Some arguments) = refl
 
 -- a word that begins with `-` and is no option
 dash-refused : (script : Option (List ℕ)) (options : Options) (word : List ℕ) (after : List (List ℕ)) → option_reading word ≡ None → (slice_index word 0 == 45) ≡ true
-    → command_after script options (word ∷ after) ≡ None
-unfolding command_after
+    → pending_command script options (word ∷ after) ≡ None
+unfolding pending_command
 dash-refused script options word after reading dash =
     let read : script_reading word ≡ None = rw dash refl in
     rw (arguments_of-word word after reading, read) refl
 
 -- a second name
 second-refused : (script : List ℕ) (options : Options) (word : List ℕ) (after : List (List ℕ)) → option_reading word ≡ None
-    → command_after (Some script) options (word ∷ after) ≡ None
-unfolding command_after
+    → pending_command (Some script) options (word ∷ after) ≡ None
+unfolding pending_command
 second-refused script options word after reading = rw (arguments_of-word word after reading) (go (slice_index word 0 == 45) (arguments_of after))
   where
     go : (dash : Bool) (others : Option (List Argument))
-        → option_and_then (command_with (Some script) options) (with_argument (if dash then None else Some (script_name word)) others) ≡ None
+        → option_and_then (joint_command (Some script) options) (with_argument (if dash then None else Some (script_name word)) others) ≡ None
     go true others = refl
     go false None = refl
     go false (Some arguments) = refl
 
 -- an option without a value
-option-refused : (script : Option (List ℕ)) (options : Options) (word : List ℕ) (name : OptionName) → Some (reading_of name) ≡ option_reading word
-    → command_after script options (word ∷ []) ≡ None
-unfolding command_after
-option-refused script options word name reading = rw (arguments_of-last_option word (reading_of name) (sym reading)) refl
+option-refused : (script : Option (List ℕ)) (options : Options) (word : List ℕ) (name : OptionName) → Some (value_reading name) ≡ option_reading word
+    → pending_command script options (word ∷ []) ≡ None
+unfolding pending_command
+option-refused script options word name reading = rw (arguments_of-last_option word (value_reading name) (sym reading)) refl
 
 -- ---- an option with its value
 
 -- what follows the options that are given, if they can be
-abbrev pub command_if_given : Option (List ℕ) → Option Options → List (List ℕ) → Option RunCommand
-command_if_given script None words = None
-command_if_given script (Some options) words = command_after script options words
+abbrev pub pending_if_given : Option (List ℕ) → Option Options → List (List ℕ) → Option RunCommand
+pending_if_given script None words = None
+pending_if_given script (Some options) words = pending_command script options words
 
 -- each option, if it has no value so far
 parts_given : (script : Option (List ℕ)) (parts : Option ℕ) (cut : Option Cut) (workers : Option ℕ) (value : Option ℕ) (rest : List (List ℕ)) (others : Option (List Argument)) → arguments_of rest ≡ others
-    → option_and_then (command_with script (record { parts = parts; cut = cut; workers = workers })) (with_argument (option_map part_count value) others) ≡ command_if_given script (options_with (record { parts = parts; cut = cut; workers = workers }) (option_map part_count value)) rest
-unfolding command_after
+    → option_and_then (joint_command script (record { parts = parts; cut = cut; workers = workers })) (with_argument (option_map part_count value) others) ≡ pending_if_given script (options_with (record { parts = parts; cut = cut; workers = workers }) (option_map part_count value)) rest
+unfolding pending_command
 parts_given script parts cut workers None rest others is = refl
 parts_given script None cut workers (Some value) rest None is = rw is refl
 parts_given script None cut workers (Some value) rest (Some arguments) is = rw is refl
 parts_given script (Some first) cut workers (Some value) rest None is = refl
-parts_given script (Some first) cut workers (Some value) rest (Some arguments) is = one_none (single_value (list_of_option script ++ filter_map script_in arguments))
+parts_given script (Some first) cut workers (Some value) rest (Some arguments) is = one_none (single_value (list_of_option script ++ filter_map given_script arguments))
 
 cut_given : (script : Option (List ℕ)) (parts : Option ℕ) (cut : Option Cut) (workers : Option ℕ) (value : Option Cut) (rest : List (List ℕ)) (others : Option (List Argument)) → arguments_of rest ≡ others
-    → option_and_then (command_with script (record { parts = parts; cut = cut; workers = workers })) (with_argument (option_map edge_cut value) others) ≡ command_if_given script (options_with (record { parts = parts; cut = cut; workers = workers }) (option_map edge_cut value)) rest
-unfolding command_after
+    → option_and_then (joint_command script (record { parts = parts; cut = cut; workers = workers })) (with_argument (option_map edge_cut value) others) ≡ pending_if_given script (options_with (record { parts = parts; cut = cut; workers = workers }) (option_map edge_cut value)) rest
+unfolding pending_command
 cut_given script parts cut workers None rest others is = refl
 cut_given script parts None workers (Some value) rest None is = rw is refl
 cut_given script parts None workers (Some value) rest (Some arguments) is = rw is refl
 cut_given script parts (Some first) workers (Some value) rest None is = refl
-cut_given script parts (Some first) workers (Some value) rest (Some arguments) is = two_none (single_value (list_of_option script ++ filter_map script_in arguments)) (single_value_or 4 (list_of_option parts ++ filter_map parts_in arguments))
+cut_given script parts (Some first) workers (Some value) rest (Some arguments) is = two_none (single_value (list_of_option script ++ filter_map given_script arguments)) (single_value_or 4 (list_of_option parts ++ filter_map given_parts arguments))
 
 workers_given : (script : Option (List ℕ)) (parts : Option ℕ) (cut : Option Cut) (workers : Option ℕ) (value : Option ℕ) (rest : List (List ℕ)) (others : Option (List Argument)) → arguments_of rest ≡ others
-    → option_and_then (command_with script (record { parts = parts; cut = cut; workers = workers })) (with_argument (option_map worker_count value) others) ≡ command_if_given script (options_with (record { parts = parts; cut = cut; workers = workers }) (option_map worker_count value)) rest
-unfolding command_after
+    → option_and_then (joint_command script (record { parts = parts; cut = cut; workers = workers })) (with_argument (option_map worker_count value) others) ≡ pending_if_given script (options_with (record { parts = parts; cut = cut; workers = workers }) (option_map worker_count value)) rest
+unfolding pending_command
 workers_given script parts cut workers None rest others is = refl
 workers_given script parts cut None (Some value) rest None is = rw is refl
 workers_given script parts cut None (Some value) rest (Some arguments) is = rw is refl
 workers_given script parts cut (Some first) (Some value) rest None is = refl
-workers_given script parts cut (Some first) (Some value) rest (Some arguments) is = three_none (single_value (list_of_option script ++ filter_map script_in arguments)) (single_value_or 4 (list_of_option parts ++ filter_map parts_in arguments)) (single_value_or TwoD (list_of_option cut ++ filter_map cut_in arguments))
+workers_given script parts cut (Some first) (Some value) rest (Some arguments) is = three_none (single_value (list_of_option script ++ filter_map given_script arguments)) (single_value_or 4 (list_of_option parts ++ filter_map given_parts arguments)) (single_value_or TwoD (list_of_option cut ++ filter_map given_cut arguments))
 
-option-given : (script : Option (List ℕ)) (options : Options) (word value : List ℕ) (rest : List (List ℕ)) (name : OptionName) → Some (reading_of name) ≡ option_reading word
-    → command_after script options (word ∷ value ∷ rest) ≡ command_if_given script (options_with options (reading_of name value)) rest
-unfolding command_after
-option-given script options word value rest name reading = rw (arguments_of-option word value rest (reading_of name) (sym reading)) (go name)
+option-given : (script : Option (List ℕ)) (options : Options) (word value : List ℕ) (rest : List (List ℕ)) (name : OptionName) → Some (value_reading name) ≡ option_reading word
+    → pending_command script options (word ∷ value ∷ rest) ≡ pending_if_given script (options_with options (value_reading name value)) rest
+unfolding pending_command
+option-given script options word value rest name reading = rw (arguments_of-option word value rest (value_reading name) (sym reading)) (go name)
   where
     go : (name : OptionName)
-        → option_and_then (command_with script options) (with_argument (reading_of name value) (arguments_of rest)) ≡ command_if_given script (options_with options (reading_of name value)) rest
-    go names.Parts = parts_given script options.parts options.cut options.workers (count_of value) rest _ refl
+        → option_and_then (joint_command script options) (with_argument (value_reading name value) (arguments_of rest)) ≡ pending_if_given script (options_with options (value_reading name value)) rest
+    go names.Parts = parts_given script options.parts options.cut options.workers (count_value value) rest _ refl
     go names.Cut = cut_given script options.parts options.cut options.workers (cut_named value) rest _ refl
-    go names.Workers = workers_given script options.parts options.cut options.workers (count_of value) rest _ refl
+    go names.Workers = workers_given script options.parts options.cut options.workers (count_value value) rest _ refl
 
 -- ---- no more words
 
 -- the command of these values
-abbrev pub command_by_default : Option ℕ → Option Cut → Option ℕ → List ℕ → RunCommand
-command_by_default parts cut workers script = record { script = script; parts = unwrap_or parts 4; cut = unwrap_or cut TwoD; workers = unwrap_or workers 4 }
+abbrev pub with_defaults : Option ℕ → Option Cut → Option ℕ → List ℕ → RunCommand
+with_defaults parts cut workers script = record { script = script; parts = unwrap_or parts 4; cut = unwrap_or cut TwoD; workers = unwrap_or workers 4 }
 
 all_given : (script : Option (List ℕ)) (parts : Option ℕ) (cut : Option Cut) (workers : Option ℕ)
-    → command_with script (record { parts = parts; cut = cut; workers = workers }) [] ≡ option_map (command_by_default parts cut workers) script
+    → joint_command script (record { parts = parts; cut = cut; workers = workers }) [] ≡ option_map (with_defaults parts cut workers) script
 all_given None parts cut workers = refl
 all_given (Some name) None None None = refl
 all_given (Some name) None None (Some w) = refl
@@ -150,13 +150,13 @@ all_given (Some name) (Some p) (Some c) None = refl
 all_given (Some name) (Some p) (Some c) (Some w) = refl
 
 no-words : (script : Option (List ℕ)) (options : Options)
-    → command_after script options [] ≡ option_map (command_by_default options.parts options.cut options.workers) script
-unfolding command_after arguments_of
+    → pending_command script options [] ≡ option_map (with_defaults options.parts options.cut options.workers) script
+unfolding pending_command arguments_of
 no-words script options = all_given script options.parts options.cut options.workers
 
 -- nothing was given before the first word
-pub none-given : (words : List (List ℕ)) → command_after None no_options words ≡ option_and_then command_of (arguments_of words)
-unfolding command_after
+pub none-given : (words : List (List ℕ)) → pending_command None no_options words ≡ option_and_then command_of (arguments_of words)
+unfolding pending_command
 none-given words = refl
 
 -- ---- the words of a slice
@@ -186,19 +186,19 @@ first-bytes rest word k first = first-word rest first.item k first.some first.is
 
 -- what is left of a command if its words begin so
 ended : {r : Option RunCommand} (script : Option (List ℕ)) (options : Options) (rest words : List (String Global)) (bytes : List (List ℕ))
-    → command_after script options (arg_bytes rest) ≡ command_after None no_options (arg_bytes words) → arg_bytes rest ≡ bytes → command_after script options bytes ≡ r
+    → pending_command script options (arg_bytes rest) ≡ pending_command None no_options (arg_bytes words) → arg_bytes rest ≡ bytes → pending_command script options bytes ≡ r
     → r ≡ option_and_then command_of (arguments_of (arg_bytes words))
-ended script options rest words bytes same begins is = sym is ∙ ap (command_after script options) (sym begins) ∙ same ∙ none-given (arg_bytes words)
+ended script options rest words bytes same begins is = sym is ∙ ap (pending_command script options) (sym begins) ∙ same ∙ none-given (arg_bytes words)
 
 kept : {r : Option RunCommand} (script : Option (List ℕ)) (options : Options) (rest words : List (String Global)) (bytes : List (List ℕ))
-    → command_after script options (arg_bytes rest) ≡ command_after None no_options (arg_bytes words) → arg_bytes rest ≡ bytes → command_after script options bytes ≡ r
-    → r ≡ command_after None no_options (arg_bytes words)
-kept script options rest words bytes same begins is = sym is ∙ ap (command_after script options) (sym begins) ∙ same
+    → pending_command script options (arg_bytes rest) ≡ pending_command None no_options (arg_bytes words) → arg_bytes rest ≡ bytes → pending_command script options bytes ≡ r
+    → r ≡ pending_command None no_options (arg_bytes words)
+kept script options rest words bytes same begins is = sym is ∙ ap (pending_command script options) (sym begins) ∙ same
 
 -- an option is the last word
 pub last-option-ends : (script : Option (List ℕ)) (options : Options) (rest words : List (String Global)) (word : List ℕ) (k : ℕ) (name : OptionName)
-    → command_after script options (arg_bytes rest) ≡ command_after None no_options (arg_bytes words) → IsFirst rest word k
-    → Some (reading_of name) ≡ option_reading word → length (take k (drop 1 rest)) < 1 → None ≡ option_and_then command_of (arguments_of (arg_bytes words))
+    → pending_command script options (arg_bytes rest) ≡ pending_command None no_options (arg_bytes words) → IsFirst rest word k
+    → Some (value_reading name) ≡ option_reading word → length (take k (drop 1 rest)) < 1 → None ≡ option_and_then command_of (arguments_of (arg_bytes words))
 last-option-ends script options rest words word k name same first reading none =
     ended script options rest words (word ∷ []) same (first-bytes rest word k first ∙ ap (λ ws. word ∷ ws) (no-word (take k (drop 1 rest)) none))
     (option-refused script options word name reading)
@@ -211,28 +211,28 @@ two-bytes rest word value k m first second =
 
 -- an option cannot have this value
 pub value-ends : (script : Option (List ℕ)) (options : Options) (rest words : List (String Global)) (word value : List ℕ) (k m : ℕ) (name : OptionName)
-    → command_after script options (arg_bytes rest) ≡ command_after None no_options (arg_bytes words) → IsFirst rest word k → IsFirst (take k (drop 1 rest)) value m
-    → Some (reading_of name) ≡ option_reading word → None ≡ options_with options (reading_of name value) → None ≡ option_and_then command_of (arguments_of (arg_bytes words))
+    → pending_command script options (arg_bytes rest) ≡ pending_command None no_options (arg_bytes words) → IsFirst rest word k → IsFirst (take k (drop 1 rest)) value m
+    → Some (value_reading name) ≡ option_reading word → None ≡ options_with options (value_reading name value) → None ≡ option_and_then command_of (arguments_of (arg_bytes words))
 value-ends script options rest words word value k m name same first second reading refused =
     let others = arg_bytes (take m (drop 1 (take k (drop 1 rest)))) in
     ended script options rest words (word ∷ value ∷ others) same (two-bytes rest word value k m first second)
-    (option-given script options word value others name reading ∙ ap (λ o. command_if_given script o others) (sym refused))
+    (option-given script options word value others name reading ∙ ap (λ o. pending_if_given script o others) (sym refused))
 
 -- an option has this value
 pub value-kept : (script : Option (List ℕ)) (options new : Options) (rest words : List (String Global)) (word value : List ℕ) (k m : ℕ) (name : OptionName)
-    → command_after script options (arg_bytes rest) ≡ command_after None no_options (arg_bytes words) → IsFirst rest word k → IsFirst (take k (drop 1 rest)) value m
-    → Some (reading_of name) ≡ option_reading word → Some new ≡ options_with options (reading_of name value)
-    → command_after script new (arg_bytes (take m (drop 1 (take k (drop 1 rest))))) ≡ command_after None no_options (arg_bytes words)
+    → pending_command script options (arg_bytes rest) ≡ pending_command None no_options (arg_bytes words) → IsFirst rest word k → IsFirst (take k (drop 1 rest)) value m
+    → Some (value_reading name) ≡ option_reading word → Some new ≡ options_with options (value_reading name value)
+    → pending_command script new (arg_bytes (take m (drop 1 (take k (drop 1 rest))))) ≡ pending_command None no_options (arg_bytes words)
 value-kept script options new rest words word value k m name same first second reading given =
     let others = arg_bytes (take m (drop 1 (take k (drop 1 rest)))) in
     kept script options rest words (word ∷ value ∷ others) same (two-bytes rest word value k m first second)
-    (option-given script options word value others name reading ∙ ap (λ o. command_if_given script o others) (sym given))
+    (option-given script options word value others name reading ∙ ap (λ o. pending_if_given script o others) (sym given))
 
 -- a word is the script's name
 pub script-kept : {S : Type 0} (name_of : S → List ℕ) (script : Option S) (options : Options) (rest words : List (String Global)) (word : List ℕ) (k : ℕ)
-    → command_after (option_map name_of script) options (arg_bytes rest) ≡ command_after None no_options (arg_bytes words) → IsFirst rest word k
+    → pending_command (option_map name_of script) options (arg_bytes rest) ≡ pending_command None no_options (arg_bytes words) → IsFirst rest word k
     → None ≡ option_reading word → is_some script ≡ false → (slice_index word 0 == 45) ≡ false
-    → command_after (Some word) options (arg_bytes (take k (drop 1 rest))) ≡ command_after None no_options (arg_bytes words)
+    → pending_command (Some word) options (arg_bytes (take k (drop 1 rest))) ≡ pending_command None no_options (arg_bytes words)
 script-kept name_of None options rest words word k same first reading none name =
     let after = arg_bytes (take k (drop 1 rest)) in
     kept None options rest words (word ∷ after) same (first-bytes rest word k first) (script-given options word after (sym reading) name)
@@ -240,7 +240,7 @@ script-kept name_of (Some script) options rest words word k same first reading n
 
 -- a word is a second name
 pub second-ends : {S : Type 0} (name_of : S → List ℕ) (script : Option S) (options : Options) (rest words : List (String Global)) (word : List ℕ) (k : ℕ)
-    → command_after (option_map name_of script) options (arg_bytes rest) ≡ command_after None no_options (arg_bytes words) → IsFirst rest word k
+    → pending_command (option_map name_of script) options (arg_bytes rest) ≡ pending_command None no_options (arg_bytes words) → IsFirst rest word k
     → None ≡ option_reading word → is_some script ≡ true → None ≡ option_and_then command_of (arguments_of (arg_bytes words))
 second-ends name_of None options rest words word k same first reading some = cc some
 second-ends name_of (Some script) options rest words word k same first reading some =
@@ -249,7 +249,7 @@ second-ends name_of (Some script) options rest words word k same first reading s
 
 -- a word begins with `-` and is no option
 pub dash-ends : (script : Option (List ℕ)) (options : Options) (rest words : List (String Global)) (word : List ℕ) (k : ℕ)
-    → command_after script options (arg_bytes rest) ≡ command_after None no_options (arg_bytes words) → IsFirst rest word k
+    → pending_command script options (arg_bytes rest) ≡ pending_command None no_options (arg_bytes words) → IsFirst rest word k
     → None ≡ option_reading word → (slice_index word 0 == 45) ≡ true → None ≡ option_and_then command_of (arguments_of (arg_bytes words))
 dash-ends script options rest words word k same first reading dash =
     let after = arg_bytes (take k (drop 1 rest)) in
@@ -257,8 +257,8 @@ dash-ends script options rest words word k same first reading dash =
 
 -- the words end
 pub all-end : (script : Option (List ℕ)) (options : Options) (rest words : List (String Global))
-    → command_after script options (arg_bytes rest) ≡ command_after None no_options (arg_bytes words) → length rest < 1
-    → option_map (command_by_default options.parts options.cut options.workers) script ≡ option_and_then command_of (arguments_of (arg_bytes words))
+    → pending_command script options (arg_bytes rest) ≡ pending_command None no_options (arg_bytes words) → length rest < 1
+    → option_map (with_defaults options.parts options.cut options.workers) script ≡ option_and_then command_of (arguments_of (arg_bytes words))
 all-end script options rest words same none = ended script options rest words [] same (no-word rest none) (no-words script options)
 
 -- ---- the word `run`

@@ -1,22 +1,17 @@
--- Internal: words of private functions, and the view of the result.
+-- Internal: words of private functions, which no public contract names.
 use Rattle.std.specs.Prelude.{◌≡◌, ℕ, ◌≤◌, ◌∷◌, [], ◌++◌, List, Option, None, Some, IfSome}
 use Rattle.std.specs.List.{filter_map}
 use Rattle.std.specs.Option.{option_and_then, option_map}
-use Rattle.gx_run_args.specs.RunCommands.{Argument, script_name, part_count, edge_cut, worker_count, RunCommand, count_of, cut_named, command_from, arguments_of, script_in, parts_in, cut_in, workers_in}
-use Rattle.gx_run_args.specs.declared.command.RunArgs.{RunArgs}
+use Rattle.gx_run_args.specs.RunCommands.{Argument, script_name, part_count, edge_cut, worker_count, RunCommand, count_value, cut_named, single_command, arguments_of, given_script, given_parts, given_cut, given_workers}
 use Rattle.gx_run_args.specs.declared.options.OptionName.{OptionName}
 use Rattle.gx_run_args.specs.declared.options.OptionName.TheVariants as names
 use Rattle.gx_run_args.specs.declared.options.Options.{Options}
 
--- the result as a command
-abbrev pub command_seen : RunArgs → RunCommand
-command_seen args = record { script = args.script.now; parts = args.parts; cut = args.cut; workers = args.workers }
-
 -- how the value of an option is read
-abbrev pub reading_of : OptionName → List ℕ → Option Argument
-reading_of names.Parts value = option_map part_count (count_of value)
-reading_of names.Cut value = option_map edge_cut (cut_named value)
-reading_of names.Workers value = option_map worker_count (count_of value)
+abbrev pub value_reading : OptionName → List ℕ → Option Argument
+value_reading names.Parts value = option_map part_count (count_value value)
+value_reading names.Cut value = option_map edge_cut (cut_named value)
+value_reading names.Workers value = option_map worker_count (count_value value)
 
 abbrev pub no_options : Options
 no_options = record { parts = None; cut = None; workers = None }
@@ -45,14 +40,14 @@ list_of_option None = []
 list_of_option (Some value) = value ∷ []
 
 -- the command of what was given, and of these arguments after it
-abbrev pub command_with : Option (List ℕ) → Options → List Argument → Option RunCommand
-command_with script options arguments =
-    command_from
-    (list_of_option script ++ filter_map script_in arguments)
-    (list_of_option options.parts ++ filter_map parts_in arguments)
-    (list_of_option options.cut ++ filter_map cut_in arguments)
-    (list_of_option options.workers ++ filter_map workers_in arguments)
+abbrev pub joint_command : Option (List ℕ) → Options → List Argument → Option RunCommand
+joint_command script options arguments =
+    single_command
+    (list_of_option script ++ filter_map given_script arguments)
+    (list_of_option options.parts ++ filter_map given_parts arguments)
+    (list_of_option options.cut ++ filter_map given_cut arguments)
+    (list_of_option options.workers ++ filter_map given_workers arguments)
 
 -- the command of what was given, and of these words after it
-unfoldable pub command_after : Option (List ℕ) → Options → List (List ℕ) → Option RunCommand
-command_after script options words = option_and_then (command_with script options) (arguments_of words)
+unfoldable pub pending_command : Option (List ℕ) → Options → List (List ℕ) → Option RunCommand
+pending_command script options words = option_and_then (joint_command script options) (arguments_of words)

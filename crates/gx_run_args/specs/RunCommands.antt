@@ -1,12 +1,13 @@
 -- The command that the words of a command line are.
 use Rattle.std.specs.Prelude.{◌≡◌, ℕ, ◌∷◌, [], Bool, ◌&&◌, nat_le, if◌then◌else◌, List, length, map, String, codes, string_bytes, bytes_eq, slice_index, ◌==◌, Option, None, Some, refl}
-use Rattle.std.specs.List.{filter_map, list_all}
+use Rattle.std.specs.List.{filter_map, list_all, slice_split}
 use Rattle.std.specs.Option.{option_and_then, option_map}
 use Rattle.std.specs.Char.{is_ascii_digit}
 use Rattle.std.specs.Str.Parse.{digits_value}
 use Rattle.std.specs.declared.alloc.Global.{Global}
 use Rattle.gx_cuts.specs.declared.cut.Cut.{Cut}
 use Rattle.gx_cuts.specs.declared.cut.Cut.TheVariants.{OneD, TwoD, Random, Canonical, Rows}
+use Rattle.gx_run_args.specs.declared.command.RunArgs.{RunArgs}
 
 -- the words as their bytes
 abbrev pub arg_bytes : List (String Global) → List (List ℕ)
@@ -19,6 +20,10 @@ pub record RunCommand : Type 0 where
   pub cut : Cut
   pub workers : ℕ
 
+-- the result of the call as a command
+abbrev pub command_view : RunArgs → RunCommand
+command_view run = record { script = run.script.now; parts = run.parts; cut = run.cut; workers = run.workers }
+
 -- what a word says, or an option with its value
 pub data Argument : Type 0 where
   script_name : List ℕ → Argument
@@ -28,6 +33,7 @@ pub data Argument : Type 0 where
 
 -- ---- values
 
+-- a number from the least to the most
 abbrev pub is_between : ℕ → ℕ → ℕ → Bool
 is_between least most n = nat_le least n && nat_le n most
 
@@ -36,8 +42,8 @@ abbrev pub is_count : List ℕ → Bool
 is_count text = is_between 1 20 (length text) && (list_all is_ascii_digit text && is_between 1 64 (digits_value 10 text))
 
 -- the count that a text spells
-abbrev pub count_of : List ℕ → Option ℕ
-count_of text = if is_count text then Some (digits_value 10 text) else None
+abbrev pub count_value : List ℕ → Option ℕ
+count_value text = if is_count text then Some (digits_value 10 text) else None
 
 -- the cut that a word names
 abbrev pub cut_named : List ℕ → Option Cut
@@ -54,9 +60,9 @@ cut_named word =
 -- how the value of an option is read, if the word is an option
 abbrev pub option_reading : List ℕ → Option (List ℕ → Option Argument)
 option_reading word =
-    if bytes_eq word (codes "--parts") then Some (λ value. option_map part_count (count_of value))
+    if bytes_eq word (codes "--parts") then Some (λ value. option_map part_count (count_value value))
     else if bytes_eq word (codes "--cut") then Some (λ value. option_map edge_cut (cut_named value))
-    else if bytes_eq word (codes "--workers") then Some (λ value. option_map worker_count (count_of value))
+    else if bytes_eq word (codes "--workers") then Some (λ value. option_map worker_count (count_value value))
     else None
 
 -- the script's name, which does not begin with `-`
@@ -83,21 +89,22 @@ arguments_of (word ∷ value ∷ rest) =
 
 -- ---- the command
 
-abbrev pub script_in : Argument → Option (List ℕ)
-script_in (script_name name) = Some name
-script_in _ = None
+-- the value of an argument, if it is one of this kind
+abbrev pub given_script : Argument → Option (List ℕ)
+given_script (script_name name) = Some name
+given_script _ = None
 
-abbrev pub parts_in : Argument → Option ℕ
-parts_in (part_count n) = Some n
-parts_in _ = None
+abbrev pub given_parts : Argument → Option ℕ
+given_parts (part_count n) = Some n
+given_parts _ = None
 
-abbrev pub cut_in : Argument → Option Cut
-cut_in (edge_cut cut) = Some cut
-cut_in _ = None
+abbrev pub given_cut : Argument → Option Cut
+given_cut (edge_cut cut) = Some cut
+given_cut _ = None
 
-abbrev pub workers_in : Argument → Option ℕ
-workers_in (worker_count n) = Some n
-workers_in _ = None
+abbrev pub given_workers : Argument → Option ℕ
+given_workers (worker_count n) = Some n
+given_workers _ = None
 
 -- the value if there is exactly one
 abbrev pub single_value : {A : Type 0} → List A → Option A
@@ -111,8 +118,8 @@ single_value_or default [] = Some default
 single_value_or default (value ∷ more) = single_value (value ∷ more)
 
 -- the command of the script's name and the values of each option
-abbrev pub command_from : List (List ℕ) → List ℕ → List Cut → List ℕ → Option RunCommand
-command_from scripts parts cuts workers =
+abbrev pub single_command : List (List ℕ) → List ℕ → List Cut → List ℕ → Option RunCommand
+single_command scripts parts cuts workers =
     option_and_then
     (λ script. option_and_then
     (λ parts. option_and_then
@@ -126,7 +133,7 @@ command_from scripts parts cuts workers =
 -- the command of these arguments: one script, and each option at most once
 abbrev pub command_of : List Argument → Option RunCommand
 command_of arguments =
-    command_from (filter_map script_in arguments) (filter_map parts_in arguments) (filter_map cut_in arguments) (filter_map workers_in arguments)
+    single_command (filter_map given_script arguments) (filter_map given_parts arguments) (filter_map given_cut arguments) (filter_map given_workers arguments)
 
 -- the command that these words are: `run`, and then one script and the options in any order
 unfoldable pub run_command : List (List ℕ) → Option RunCommand
@@ -137,61 +144,73 @@ run_command (command ∷ words) =
 -- ---- examples
 
 run_command-no_words : run_command [] ≡ None
-unfolding run_command arguments_of
+unfolding run_command
 run_command-no_words = refl
 
-run_command-no_script : run_command (codes "run" ∷ []) ≡ None
-unfolding run_command arguments_of
-run_command-no_script = refl
+-- the command of the words of a line, with a space between two
+abbrev line_command : List ℕ → Option RunCommand
+line_command line = run_command (slice_split (λ byte. byte == 32) line)
 
-run_command-script_alone : run_command (codes "run" ∷ codes "s" ∷ []) ≡ Some (record { script = codes "s"; parts = 4; cut = TwoD; workers = 4 })
+line_command-no_script : line_command (codes "run") ≡ None
 unfolding run_command arguments_of
-run_command-script_alone = refl
+line_command-no_script = refl
 
-run_command-parts_twice : run_command (codes "run" ∷ codes "s" ∷ codes "--parts" ∷ codes "1" ∷ codes "--parts" ∷ codes "2" ∷ []) ≡ None
+line_command-script_alone : line_command (codes "run s") ≡ Some (record { script = codes "s"; parts = 4; cut = TwoD; workers = 4 })
 unfolding run_command arguments_of
-run_command-parts_twice = refl
+line_command-script_alone = refl
 
-run_command-other_cut : run_command (codes "run" ∷ codes "s" ∷ codes "--cut" ∷ codes "3d" ∷ []) ≡ None
+line_command-parts_twice : line_command (codes "run s --parts 1 --parts 2") ≡ None
 unfolding run_command arguments_of
-run_command-other_cut = refl
+line_command-parts_twice = refl
 
-run_command-most_parts : run_command (codes "run" ∷ codes "s" ∷ codes "--parts" ∷ codes "64" ∷ []) ≡ Some (record { script = codes "s"; parts = 64; cut = TwoD; workers = 4 })
+line_command-other_cut : line_command (codes "run s --cut 3d") ≡ None
 unfolding run_command arguments_of
-run_command-most_parts = refl
+line_command-other_cut = refl
 
-run_command-too_many_parts : run_command (codes "run" ∷ codes "s" ∷ codes "--parts" ∷ codes "65" ∷ []) ≡ None
+line_command-most_parts : line_command (codes "run s --parts 64") ≡ Some (record { script = codes "s"; parts = 64; cut = TwoD; workers = 4 })
 unfolding run_command arguments_of
-run_command-too_many_parts = refl
+line_command-most_parts = refl
 
-run_command-no_parts : run_command (codes "run" ∷ codes "s" ∷ codes "--parts" ∷ codes "0" ∷ []) ≡ None
+line_command-more_parts : line_command (codes "run s --parts 65") ≡ None
 unfolding run_command arguments_of
-run_command-no_parts = refl
+line_command-more_parts = refl
 
-run_command-options_around : run_command (codes "run" ∷ codes "--workers" ∷ codes "2" ∷ codes "s" ∷ codes "--cut" ∷ codes "rows" ∷ []) ≡ Some (record { script = codes "s"; parts = 4; cut = Rows; workers = 2 })
+line_command-zero_parts : line_command (codes "run s --parts 0") ≡ None
 unfolding run_command arguments_of
-run_command-options_around = refl
+line_command-zero_parts = refl
 
-run_command-two_scripts : run_command (codes "run" ∷ codes "s" ∷ codes "t" ∷ []) ≡ None
+line_command-options_around : line_command (codes "run --workers 2 s --cut rows") ≡ Some (record { script = codes "s"; parts = 4; cut = Rows; workers = 2 })
 unfolding run_command arguments_of
-run_command-two_scripts = refl
+line_command-options_around = refl
 
-run_command-no_value : run_command (codes "run" ∷ codes "s" ∷ codes "--parts" ∷ []) ≡ None
+line_command-two_scripts : line_command (codes "run s t") ≡ None
 unfolding run_command arguments_of
-run_command-no_value = refl
+line_command-two_scripts = refl
 
-run_command-other_option : run_command (codes "run" ∷ codes "-s" ∷ []) ≡ None
+line_command-no_value : line_command (codes "run s --parts") ≡ None
 unfolding run_command arguments_of
-run_command-other_option = refl
+line_command-no_value = refl
 
-run_command-zeros : run_command (codes "run" ∷ codes "s" ∷ codes "--parts" ∷ codes "007" ∷ []) ≡ Some (record { script = codes "s"; parts = 7; cut = TwoD; workers = 4 })
+line_command-other_option : line_command (codes "run -s") ≡ None
 unfolding run_command arguments_of
-run_command-zeros = refl
+line_command-other_option = refl
 
-run_command-sign : run_command (codes "run" ∷ codes "s" ∷ codes "--parts" ∷ codes "+1" ∷ []) ≡ None
+line_command-zeros : line_command (codes "run s --parts 007") ≡ Some (record { script = codes "s"; parts = 7; cut = TwoD; workers = 4 })
 unfolding run_command arguments_of
-run_command-sign = refl
+line_command-zeros = refl
 
-run_command-other_command : run_command (codes "show" ∷ codes "s" ∷ []) ≡ None
+line_command-sign : line_command (codes "run s --parts +1") ≡ None
 unfolding run_command arguments_of
-run_command-other_command = refl
+line_command-sign = refl
+
+line_command-other_command : line_command (codes "show s") ≡ None
+unfolding run_command arguments_of
+line_command-other_command = refl
+
+line_command-most_digits : line_command (codes "run s --parts 00000000000000000064") ≡ Some (record { script = codes "s"; parts = 64; cut = TwoD; workers = 4 })
+unfolding run_command arguments_of
+line_command-most_digits = refl
+
+line_command-more_digits : line_command (codes "run s --parts 000000000000000000064") ≡ None
+unfolding run_command arguments_of
+line_command-more_digits = refl

@@ -2,13 +2,13 @@
 //! say, and then the defaults.
 
 ghost use Rattle.std.specs.Prelude.{◌≡◌, ◌≤◌, ◌==◌, IfSome, option_and_then, option_map, slice_index};
-ghost use Rattle.gx_run_args.specs.RunCommands.{arg_bytes, arguments_of, command_of, run_command};
-ghost use Rattle.gx_run_args.specs.GivenOptions.{command_seen};
+ghost use Rattle.gx_run_args.specs.RunCommands.{arg_bytes, arguments_of, command_of, command_view, run_command};
 
 use crate::options::{OptionName, Options};
 use gx_cuts::Cut;
 
 /// The command `run`: which script, how many partitions, which cut, how many workers.
+#[derive(Clone, Copy)]
 pub struct RunArgs<'a> {
     /// The name of the script's file.
     pub script: &'a str,
@@ -23,7 +23,7 @@ pub struct RunArgs<'a> {
 /// The command that these words are, the ones after the program's name; `None` if they are none.
 /// It takes no memory.
 pub fn run_args(args: &[String]) -> Option<RunArgs<'_>>
-    ensures exact { option_map command_seen result ≡ run_command (arg_bytes args.now) }
+    ensures exact { option_map command_view result ≡ run_command (arg_bytes args.now) }
     ensures parts_in_range { IfSome result (λ run. (1 ≤ run.parts) × (run.parts ≤ 64)) }
     ensures workers_in_range { IfSome result (λ run. (1 ≤ run.workers) × (run.workers ≤ 64)) }
 {
@@ -39,7 +39,7 @@ pub fn run_args(args: &[String]) -> Option<RunArgs<'_>>
 
 // The command that these words are after the word `run`.
 fn run_args_after(words: &[String]) -> Option<RunArgs<'_>>
-    ensures exact { option_map command_seen result
+    ensures exact { option_map command_view result
         ≡ option_and_then command_of (arguments_of (arg_bytes words.now)) }
     ensures parts_in_range { IfSome result (λ run. (1 ≤ run.parts) × (run.parts ≤ 64)) }
     ensures workers_in_range { IfSome result (λ run. (1 ≤ run.workers) × (run.workers ≤ 64)) }

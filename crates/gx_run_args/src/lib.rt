@@ -7,7 +7,7 @@
 //!
 //! To add an option, add a variant to `OptionName` and a field to `Options` (`options.rt`), and in
 //! the definition a constructor of `Argument`, a line of `option_reading` and a part of
-//! `command_from`.
+//! `single_command`.
 #![tactic(auto)]
 
 mod command;

@@ -3,8 +3,8 @@
 ghost use Rattle.std.specs.Prelude.{◌≡◌, ◌≤◌, IfSome, option_map};
 ghost use Rattle.std.specs.Char.{is_ascii_digit};
 ghost use Rattle.std.specs.List.{list_all};
-ghost use Rattle.gx_run_args.specs.RunCommands.{count_of, cut_named, option_reading};
-ghost use Rattle.gx_run_args.specs.GivenOptions.{HasCounts, no_options, options_with, reading_of};
+ghost use Rattle.gx_run_args.specs.RunCommands.{count_value, cut_named, option_reading};
+ghost use Rattle.gx_run_args.specs.GivenOptions.{HasCounts, no_options, options_with, value_reading};
 
 use gx_cuts::Cut;
 
@@ -19,7 +19,7 @@ pub(crate) enum OptionName {
 impl OptionName {
     /// The option that a word names; `None` if it names none.
     pub(crate) fn of_word(word: &str) -> Option<OptionName>
-        ensures { option_map reading_of result ≡ option_reading word.now }
+        ensures { option_map value_reading result ≡ option_reading word.now }
     {
         match word {
             "--parts" => Some(OptionName::Parts),
@@ -52,12 +52,12 @@ impl Options {
 
     /// One more option, with its value; `None` if it has a value or cannot have this one.
     pub(crate) fn with(self, name: OptionName, value: &str) -> Option<Options>
-        ensures exact { result ≡ options_with self (reading_of name value.now) }
+        ensures exact { result ≡ options_with self (value_reading name value.now) }
         ensures in_range { HasCounts self → IfSome result HasCounts }
     {
         match name {
             OptionName::Parts if self.parts.is_none() => Some(Options {
-                parts: Some(count_of(value)?),
+                parts: Some(count_value(value)?),
                 ..self
             }),
             OptionName::Cut if self.cut.is_none() => Some(Options {
@@ -65,7 +65,7 @@ impl Options {
                 ..self
             }),
             OptionName::Workers if self.workers.is_none() => Some(Options {
-                workers: Some(count_of(value)?),
+                workers: Some(count_value(value)?),
                 ..self
             }),
             _ => None,
@@ -74,8 +74,8 @@ impl Options {
 }
 
 // The count that a word spells: 1 to 20 digits, of a value from 1 to 64.
-fn count_of(word: &str) -> Option<u32>
-    ensures exact { result ≡ count_of word.now }
+fn count_value(word: &str) -> Option<u32>
+    ensures exact { result ≡ count_value word.now }
     ensures in_range { IfSome result (λ count. (1 ≤ count) × (count ≤ 64)) }
 {
     if word.len() > 20 || !is_digits(word) {
