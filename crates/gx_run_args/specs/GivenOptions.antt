@@ -1,5 +1,5 @@
 -- Internal: words of private functions, which no public contract names.
-use Rattle.std.specs.Prelude.{◌≡◌, ℕ, ◌≤◌, ◌∷◌, [], ◌++◌, List, Option, None, Some, IfSome}
+use Rattle.std.specs.Prelude.{ℕ, ◌≤◌, ◌∷◌, [], ◌++◌, List, Option, None, Some, IfSome}
 use Rattle.std.specs.List.{filter_map}
 use Rattle.std.specs.Option.{option_and_then, option_map}
 use Rattle.gx_run_args.specs.RunCommands.{Argument, script_name, part_count, edge_cut, worker_count, RunCommand, count_value, cut_named, single_command, arguments_of, given_script, given_parts, given_cut, given_workers}

@@ -1,8 +1,22 @@
-//! The command that the words of a command line are: a walk over the words, which collects what they
-//! say, and then the defaults.
+//! The command that the words of a command line are: a walk over the words, which collects what
+//! they say, and then the defaults.
 
-ghost use Rattle.std.specs.Prelude.{◌≡◌, ◌≤◌, ◌==◌, IfSome, option_and_then, option_map, slice_index};
-ghost use Rattle.gx_run_args.specs.RunCommands.{arg_bytes, arguments_of, command_of, command_view, run_command};
+ghost use Rattle.std.specs.Prelude.{
+  ◌≡◌,
+  ◌≤◌,
+  ◌==◌,
+  IfSome,
+  option_and_then,
+  option_map,
+  slice_index,
+};
+ghost use Rattle.gx_run_args.specs.RunCommands.{
+  arg_bytes,
+  arguments_of,
+  command_of,
+  command_view,
+  run_command,
+};
 
 use crate::options::{OptionName, Options};
 use gx_cuts::Cut;

@@ -1,5 +1,5 @@
 -- Each way through the loop, by the lemma on the word that it begins with.
-use Rattle.std.proofs.Common.{◌≡◌, ◌∙◌, ap, refl, sym}
+use Rattle.std.proofs.Common.{◌∙◌, refl, sym}
 use Rattle.gx_run_args.proofs.GivenLemmas.{all-end, dash-ends, last-option-ends, script-kept, second-ends, value-ends, value-kept}
 use Rattle.gx_run_args.proofs.command.run_args_after.Goals as goal
 use Rattle.gx_run_args.proofs.command.run_args_after.Goals.{then-is_some-via-then-is_some, then-is_some-via-else-is_some+then-begins_with_dash}
