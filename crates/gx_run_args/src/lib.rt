@@ -2,7 +2,7 @@
 //!
 //! Contracts see the words as their bytes and the result as a `RunCommand`. Which command the words
 //! are, if they are one, is defined in `specs/RunCommands.antt`. The crate depends on `gx_cuts` for
-//! the cuts alone; the top call is built on it. It takes no memory, never sees the script, and does
+//! the cuts alone, and serves the top call. It takes no memory, never sees the script, and does
 //! not say what is wrong with words that are no command.
 //!
 //! To add an option, add a variant to `OptionName` and a field to `Options` (`options.rt`), and in

@@ -4,7 +4,12 @@ ghost use Rattle.std.specs.Prelude.{◌≡◌, ◌≤◌, IfSome, option_map};
 ghost use Rattle.std.specs.Char.{is_ascii_digit};
 ghost use Rattle.std.specs.List.{list_all};
 ghost use Rattle.gx_run_args.specs.RunCommands.{count_value, cut_named, option_reading};
-ghost use Rattle.gx_run_args.specs.GivenOptions.{HasCounts, no_options, options_with, value_reading};
+ghost use Rattle.gx_run_args.specs.GivenOptions.{
+  HasCounts,
+  no_options,
+  options_with,
+  value_reading,
+};
 
 use gx_cuts::Cut;
 
@@ -50,7 +55,7 @@ impl Options {
         }
     }
 
-    /// One more option, with its value; `None` if it has a value or cannot have this one.
+    /// One more option, with its value; `None` if it has a value already or cannot have this one.
     pub(crate) fn with(self, name: OptionName, value: &str) -> Option<Options>
         ensures exact { result ≡ options_with self (value_reading name value.now) }
         ensures in_range { HasCounts self → IfSome result HasCounts }
