@@ -1,0 +1,2 @@
+pub mod GivenOptions
+pub mod RunCommands
