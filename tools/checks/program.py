@@ -36,14 +36,53 @@ def check_examples():
 def check_console_blocks():
     """Runs each `$` line of a console block at the top and compares what follows it."""
     for document in (TOP / "README.md", *sorted((TOP / "docs").glob("*.md"))):
-        blocks = re.findall(r"^```console\n(.*?)^```", document.read_text(), re.S | re.M)
-        for number, block in enumerate(blocks, 1):
-            for step in re.split(r"^\$ ", block, flags=re.M)[1:]:
-                command, _, wanted = step.partition("\n")
-                ended = run(["bash", "-c", "exec 2>&1\n" + command])
-                printed = ended.stdout.decode(errors="replace")
-                problem = None if printed == wanted else f"printed {printed!r}"
-                judge(f"{document.name}, console block {number}, `{command}`", problem)
+        for number, command, wanted in console_steps(document):
+            printed = printed_by(command)
+            problem = None if printed == wanted else f"printed {printed!r}"
+            judge(f"{document.name}, console block {number}, `{command}`", problem)
+
+
+def check_partitions():
+    """Runs the examples, and the sessions of docs/worked.md that name no partitions of their own,
+    under each cut with 1, 2 and 64 partitions and several numbers of workers. What is printed,
+    and the line of a refusal, stay the same."""
+    options = [
+        f"--parts {parts} --cut {cut} --workers {workers}"
+        for cut in ("1d", "2d", "random", "canonical", "rows")
+        for parts, workers in ((1, 3), (2, 2), (64, 1))
+    ]
+    for script in sorted(TOP.glob("examples/*/*.gx")):
+        wanted = script.with_suffix(".out").read_bytes()
+        differing = [
+            words
+            for words in options
+            if run([GX, "run", script.name, *words.split()], script.parent).stdout != wanted
+        ]
+        problem = f"other output with {differing}" if differing else None
+        judge(f"example {script.relative_to(TOP)} in partitions", problem)
+    for number, command, wanted in console_steps(TOP / "docs/worked.md"):
+        if "gx run " in command and "--" not in command:
+            differing = [
+                words
+                for words in options
+                if printed_by(command.replace("gx run ", f"gx run {words} ")) != wanted
+            ]
+            problem = f"other output with {differing}" if differing else None
+            judge(f"worked.md, console block {number}, `{command}` in partitions", problem)
+
+
+def console_steps(document):
+    """Gives the number of the block, the command and what follows it, for each `$` line."""
+    blocks = re.findall(r"^```console\n(.*?)^```", document.read_text(), re.S | re.M)
+    for number, block in enumerate(blocks, 1):
+        for step in re.split(r"^\$ ", block, flags=re.M)[1:]:
+            command, _, wanted = step.partition("\n")
+            yield number, command, wanted
+
+
+def printed_by(command):
+    ended = run(["bash", "-c", "exec 2>&1\n" + command])
+    return ended.stdout.decode(errors="replace")
 
 
 def check_bad_input():
@@ -66,6 +105,15 @@ def check_bad_input():
             (["run"], 2, "usage: "),
             (["show", "s.gx"], 2, "usage: "),
             (["run", "s.gx", "--parts"], 2, "usage: "),
+            (["run", "s.gx", "--parts", "0"], 2, "usage: "),
+            (["run", "s.gx", "--parts", "65"], 2, "usage: "),
+            (["run", "s.gx", "--parts", "1", "--parts", "2"], 2, "usage: "),
+            (["run", "s.gx", "--cut", "3d"], 2, "usage: "),
+            (["run", "s.gx", "--workers", "+1"], 2, "usage: "),
+            (["run", "s.gx", "--report"], 2, "usage: "),
+            (["run", "s.gx", "t.gx"], 2, "usage: "),
+            (["run", "-s.gx"], 2, "usage: "),
+            (["run", "none.gx", "--workers", "64", "--parts", "064"], 4, "source: none.gx\n"),
             ([b"run", b"\xff\xfe"], 2, "usage: "),
             (["run", "none.gx"], 4, "source: none.gx\n"),
             (["run", "."], 4, "source: .\n"),
