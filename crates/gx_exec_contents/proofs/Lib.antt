@@ -4,7 +4,10 @@ pub mod JoinedParts
 pub mod LeastOfParts
 pub mod MadeContents
 pub mod MadeStatements
+pub mod MadeTables
+pub mod MovedEdges
 pub mod StatementValues
 pub mod StoppedBlocks
 pub mod StopsOfNodes
 pub mod TableParts
+pub mod ValuesWithoutPlaces

@@ -4,7 +4,8 @@ use Rattle.gx_cuts.specs.Places.{place_of}
 use Rattle.gx_cuts.specs.declared.cut.Cut.{Cut}
 use Rattle.gx_cuts.specs.declared.cut.Cut.TheVariants.{Rows}
 use Rattle.gx_lineage.specs.Lineage.{IsSound}
-use Rattle.gx_model.specs.Graphs.{Graph, Placement, unplaced}
+use Rattle.gx_model.specs.Graphs.{Graph, Placement}
+use Rattle.gx_model.specs.ScriptMeaning.{Loaded}
 use Rattle.gx_model.specs.Values.{LoadedRows, value_named, values_of_script}
 use Rattle.gx_plan.specs.PlanInvariant.{IsPlan}
 use Rattle.gx_plan.specs.PlanLaws.{HasSorts}
@@ -42,9 +43,9 @@ placed_values w = values_of_script (places_in w) w.loads (stmts_of w)
 abbrev pub value_in : World → ℕ → Graph ℕ
 value_in w s = value_named (placed_values w) s
 
--- the value of each statement over plain lists, where nothing is known of places
-abbrev pub unplaced_values : World → List (Graph (Unit {0}))
-unplaced_values w = values_of_script unplaced w.loads (stmts_of w)
+-- the script with its loaded rows, as the plain model knows it: without parts and places
+abbrev pub loaded_in : World → Loaded
+loaded_in w = record { checked = w.script; loads = w.loads }
 
 -- ---- what is asked of a world and a plan
 
