@@ -25,7 +25,7 @@ module _ {Place : Type 0} where
   plain-placed_anew place [] = refl
   plain-placed_anew place (e ∷ edges) = ap (λ es. e.1 ∷ es) (plain-placed_anew place edges)
 
-  loaded-without_places : (place : ℕ → Edge → Place) (n : ℕ) (edges : List Edge) → placed_anew (λ e. tt) (placed_from place n edges) ≡ placed_from (λ n e. tt) n edges
+  loaded-without_places : (place : ℕ → Edge → Place) (n : ℕ) (edges : List Edge) → placed_anew {New = Unit {0}} (λ e. tt) (placed_from place n edges) ≡ placed_from unplaced.of_loaded n edges
   loaded-without_places place n [] = refl
   loaded-without_places place n (e ∷ edges) = ap (λ es. (tt, e) ∷ es) (loaded-without_places place (n + 1) edges)
 
@@ -120,6 +120,6 @@ module _ {Place : Type 0} (vs : List (Graph Place)) where
   answer-without_places checked (stmts.CountVertices g) = ap (λ (x : Graph (Unit {0})). Some (count_answer (length x.vertices))) (named-without_places vs g)
   answer-without_places checked (stmts.CountEdges g) =
       ap (λ (x : Graph (Unit {0})). Some (count_answer (length x.edges))) (named-without_places vs g)
-      ∙ ap (λ n. Some (count_answer n)) (length-map (λ e. (tt, e.1)) (value_named vs g).edges)
+      ∙ ap (λ n. Some (count_answer n)) (length-map (value_named vs g).edges (λ e. (tt, e.1)))
   answer-without_places checked (stmts.CountTable t) = ap (λ (x : Graph (Unit {0})). Some (count_answer (length x.vertices))) (named-without_places vs t)
   answer-without_places checked _ = refl

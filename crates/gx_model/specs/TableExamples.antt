@@ -48,17 +48,17 @@ vertices_in_both-example = refl
 
 -- the column `age` of a side
 age_of_side : Side → Expr
-age_of_side s = roll-Expr (layer.Column 1 s 0)
+age_of_side which = roll-Expr (layer.Column 1 which 0)
 
 int_at : ℕ → ℕ → Expr
 int_at node n = roll-Expr (layer.Const node (Int (pos n)))
 
 age_in : Side → ScopeValues → Value
-age_in side s = value_or_zero (slice_get (s.columns side) 0)
+age_in which s = value_or_zero (slice_get (s.columns which) 0)
 
-age_of_side-result : (side : Side) (s : ScopeValues) → eval_result s (age_of_side side) ≡ Ok (age_in side s)
+age_of_side-result : (which : Side) (s : ScopeValues) → eval_result s (age_of_side which) ≡ Ok (age_in which s)
 unfolding age_of_side age_in
-age_of_side-result side s = eval_result-roll s (layer.Column 1 side 0)
+age_of_side-result which s = eval_result-roll s (layer.Column 1 which 0)
 
 -- v.age > 28
 over_28 : Expr
