@@ -1,4 +1,5 @@
 pub mod EndsOfParts
+pub mod EqualEdges
 pub mod GrownPlans
 pub mod JoinedParts
 pub mod LeastOfParts

@@ -15,7 +15,7 @@ use Rattle.gx_epart.proofs.Unique.{IsEdgeOrderOf-unique}
 use Rattle.gx_gops.specs.Moving.{edges_placed_in, is_placed_in}
 use Rattle.gx_model.specs.Graphs.{placed_anew, plain_edges}
 use Rattle.gx_rows.specs.Order.{Edge, edge_cmp, edge_cmp-total}
-use Rattle.gx_rows.proofs.Ties.{equal_edges}
+use Rattle.gx_exec_contents.proofs.EqualEdges.{edge_cmp-exact}
 use Rattle.gx_exec_contents.specs.PartContents.{part_of_edges}
 use Rattle.gx_exec_contents.proofs.EndsOfParts.{ArePlaced}
 use Rattle.gx_exec_contents.proofs.JoinedParts.{edges-are_their_parts}
@@ -117,7 +117,7 @@ permuted-edge_order_of edges =
 -- the same edges have one edge order, in whatever order they are given
 pub edge_order_of-permuted : (xs ys : List Edge) → IsPermutation xs ys → edge_order_of xs ≡ edge_order_of ys
 edge_order_of-permuted xs ys same =
-    IsEdgeOrderOf-unique equal_edges ys (edge_order_of xs)
+    IsEdgeOrderOf-unique edge_cmp-exact ys (edge_order_of xs)
     (record {
       same = IsPermutation-trans ys xs (edge_order_of xs) (IsPermutation-sym xs ys same) (permuted-edge_order_of xs);
       sorted = sorted_from_climbs (edge_order_of xs) (climbs-edge_order_of xs);
