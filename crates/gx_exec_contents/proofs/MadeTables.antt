@@ -1,14 +1,14 @@
 -- What the kernels make of the parts of tables is the part of what the model makes of the tables.
 use Rattle.std.proofs.Common.{◌≡◌, ℕ, Bool, true, false, cond, List, [], ◌∷◌, Option, Some, None, is_none, is_some, Result, Ok, Err, option_map, unwrap_or, refl, sym, ap, ap₂, ◌∙◌}
 use Rattle.std.specs.Prelude.{slice_get}
-use Rattle.std.specs.List.{cons_option, filter, filter_map}
+use Rattle.std.specs.List.{cons_option, filter_map}
 use Rattle.std.specs.List.Sorted.{IsStrictlySortedBy}
 use Rattle.std.specs.Map.{keys_of}
 use Rattle.std.specs.Result.{result_ok, result_unwrap_or}
 use Rattle.gx_rows.specs.declared.cause.Cause.{Cause}
 use Rattle.gx_rows.specs.declared.value.Value.{Value}
 use Rattle.gx_rows.specs.declared.vid.Vid.{Vid}
-use Rattle.gx_expr.specs.Evaluation.{ScopeValues, row_result, truth_result}
+use Rattle.gx_expr.specs.Evaluation.{row_result, truth_result}
 use Rattle.gx_expr.specs.declared.expr.Expr.{Expr}
 use Rattle.gx_expr.specs.declared.side.Side.{Side}
 use Rattle.gx_expr.specs.declared.side.Side.TheVariants as side
@@ -22,7 +22,7 @@ use Rattle.gx_vpart.specs.Operators.{diff, inner_join, is_changed, left_join, mi
 use Rattle.gx_vtable.specs.Kernels.{earliest_fault, fault_if, faults_at, rows_made}
 use Rattle.gx_vtable.specs.NewRows.{columns_at_vertex, columns_in_join, id_at_vertex, inner_row, join_id, left_row, mapped_row, test_result, values_at_vertex, values_in_join, vertex_id}
 use Rattle.gx_exec_contents.specs.MadeBlocks.{mapped, vertices_kept, vertices_made}
-use Rattle.gx_exec_contents.specs.PartContents.{Content, Table, part_of_vertices, stop_on_vertex, stop_or, stop_over_vertices}
+use Rattle.gx_exec_contents.specs.PartContents.{Table, part_of_vertices, stop_on_vertex, stop_or, stop_over_vertices}
 use Rattle.gx_exec_contents.proofs.TableParts.{IsAscending-part, IsAscending-passing, filter_map-in_part, look_up-in_part, part-passing, part-with_new_rows}
 
 -- ---- what an expression reads

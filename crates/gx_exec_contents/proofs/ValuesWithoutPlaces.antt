@@ -1,5 +1,5 @@
 -- The values of a world without places are those of the plain model.
-use Rattle.std.proofs.Common.{◌≡◌, ℕ, List, map, sym, ap, ◌∙◌}
+use Rattle.std.proofs.Common.{◌≡◌, map, sym, ap, ◌∙◌}
 use Rattle.gx_model.specs.ActionAnswers.{answer_of_stmt}
 use Rattle.gx_model.specs.Graphs.{Graph, plain_edges, without_places}
 use Rattle.gx_model.specs.ScriptMeaning.{plain_values}

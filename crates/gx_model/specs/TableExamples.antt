@@ -8,7 +8,7 @@ use Rattle.gx_rows.specs.declared.cause.Cause.TheVariants as cause
 use Rattle.gx_rows.specs.declared.row_key.RowKey.TheVariants as row_key
 use Rattle.gx_rows.specs.declared.value.Value.{Value}
 use Rattle.gx_rows.specs.declared.value.Value.TheVariants.{Bool, Int}
-use Rattle.gx_expr.specs.Evaluation.{ScopeValues, EvalResult, eval_binary, eval_result, eval_result-roll, value_or_zero}
+use Rattle.gx_expr.specs.Evaluation.{ScopeValues, eval_binary, eval_result, eval_result-roll, value_or_zero}
 use Rattle.gx_expr.specs.declared.expr.Expr.{Expr, roll-Expr}
 use Rattle.gx_expr.specs.declared.expr.Expr.TheOpen as layer
 use Rattle.gx_expr.specs.declared.operators.BinaryOp.TheVariants as binary

@@ -3,8 +3,7 @@ use Rattle.std.specs.Prelude.{ℕ, ◌+◌, ◌-◌, ◌==◌, Bool, false, not,
 use Rattle.std.specs.Ordering.{eq_by_cmp}
 use Rattle.std.specs.Result.{result_ok, result_unwrap_or}
 use Rattle.std.specs.Map.{lookup}
-use Rattle.gx_cuts.specs.declared.cut.Cut.{Cut}
-use Rattle.gx_rows.specs.Order.{Edge, row_cmp}
+use Rattle.gx_rows.specs.Order.{row_cmp}
 use Rattle.gx_rows.specs.declared.cause.Cause.{Cause}
 use Rattle.gx_rows.specs.declared.value.Value.{Value}
 use Rattle.gx_rows.specs.declared.vid.Vid.{Vid}
