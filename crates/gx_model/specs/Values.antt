@@ -111,7 +111,7 @@ join_row_result sets others default v =
 abbrev pub vertices_in_both : List Vertex → List Vertex → List Vertex
 vertices_in_both vertices others = filter (λ v. is_some (first_row_of others v.0)) vertices
 
--- each vertex that is among the others, with its new row
+-- each vertex that is among the others, with its new row; none needs a default
 abbrev pub inner_joined_vertices : List Expr → List Vertex → List Vertex → List Vertex
 inner_joined_vertices sets vertices others =
     vertices_with_rows (join_row_result sets others []) (vertices_in_both vertices others)
