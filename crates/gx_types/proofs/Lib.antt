@@ -1,5 +1,7 @@
 mod BuiltLemmas
 mod ScriptWalk
+mod SoundScripts
+mod TypedBodies
 mod UseLemmas
 mod MarkLemmas
 mod NeedLemmas
