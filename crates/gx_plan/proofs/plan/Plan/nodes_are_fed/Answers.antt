@@ -1,0 +1,6 @@
+use Rattle.gx_plan.proofs.NamedSorts.{named-has_sorts}
+use Rattle.gx_plan.proofs.plan.Plan.nodes_are_fed.Goals as goal
+
+pub returns-clause-sorts : goal.returns-clause-sorts
+returns-clause-sorts c =
+    named-has_sorts c.args.self.now.script c.statements_are_sound.ensures.sorts c.statements_are_sound.ensures.run
