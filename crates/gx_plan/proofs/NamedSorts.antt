@@ -1,18 +1,21 @@
 -- What a statement reads or takes over, in scripts whose statements name things of the right sorts.
 --
 -- To plan a statement, add its lines here, as in StmtNodes.antt.
-use Rattle.std.proofs.Common.{◌≡◌, ℕ, ◌-◌, ◌≤◌, Bool, true, false, Option, Some, None, option_and_then, option_map, unwrap_or, slice_get, List, [], ◌∷◌, refl, sym, ap, subst, arith}
+use Rattle.std.proofs.Common.{◌≡◌, ◌≢◌, ℕ, ◌-◌, ◌≤◌, Bool, true, false, Option, Some, None, option_and_then, option_map, unwrap_or, slice_get, List, [], ◌∷◌, refl, sym, ap, subst, arith}
 use Rattle.std.specs.Prelude.{⊤}
 use Rattle.std.specs.List.{AllByRecursion}
+use Rattle.gx_cuts.specs.declared.cut.Cut.TheVariants.{Rows}
 use Rattle.gx_types.specs.Built.{is_run}
-use Rattle.gx_types.specs.SoundStmts.{AreRun, MoveByEnds, MovesByEnds}
+use Rattle.gx_types.specs.SoundStmts.{AreRun, HasWrittenCut, HaveWrittenCuts}
 use Rattle.gx_types.specs.StmtSorts.{HasNamedSorts, IsMadeWithin, named_sorts, sort_made, sort_of_number}
+use Rattle.gx_types.proofs.TypedBodies.{each-cut_word}
+use Rattle.gx_types_stmts.specs.StmtWords.{cut_of_written}
 use Rattle.gx_types_stmts.specs.declared.checked_stmt.CheckedStmt.{CheckedStmt}
 use Rattle.gx_types_stmts.specs.declared.sort.Sort.{Sort}
 use Rattle.gx_types_stmts.specs.declared.sort.Sort.TheVariants as sort
 use Rattle.gx_types_stmts.specs.declared.typed_stmt.TypedStmt.{TypedStmt}
 use Rattle.gx_types_stmts.specs.declared.typed_stmt.TypedStmt.TheVariants as stmts
-use Rattle.gx_plan.specs.PlanLaws.{HasSorts, IsEarlierOf, makes_kind}
+use Rattle.gx_plan.specs.PlanLaws.{HasSorts, IsEarlierOf, MoveByEnds, MovesByEnds, makes_kind}
 use Rattle.gx_plan.specs.Recipes.{recipe_of}
 use Rattle.gx_plan.specs.StmtNodes.{feeds, feeds_kind, inherits, statement_of}
 use Rattle.gx_plan.specs.declared.kind.Kind.{Kind}
@@ -116,10 +119,10 @@ made-kinds script m s k (Some c) at run made has =
     kinds k has
 
 made-earlier : (script : List CheckedStmt) (s : ℕ) → AreRun script → 1 ≤ s → ServesKinds (IsMadeWithin script (s - 1)) (IsEarlierOf script s)
-made-earlier script s run from_one of u k has made = record {
+made-earlier script s run from_one sort_named u k has made = record {
   from_one = made.from_one;
   earlier = omega (arith, made.within, from_one);
-  makes = made-kinds script u of k (slice_get script (u - 1)) refl run made.made has;
+  makes = made-kinds script u sort_named k (slice_get script (u - 1)) refl run made.made has;
 }
 
 taken-sorted : (script : List CheckedStmt) (s m : ℕ) (k : Kind) (o : Option CheckedStmt) → slice_get script (s - 1) ≡ o → HasNamedSorts script → AreRun script → 1 ≤ s → inherits k (stmt_or_none o) ≡ Some m
@@ -150,6 +153,14 @@ run-at script i (Some c) at run = run i c at
 
 pub statement-is_run : (script : List CheckedStmt) (s : ℕ) → AreRun script → is_run (statement_of script s) ≡ true
 statement-is_run script s run = run-at script (s - 1) (slice_get script (s - 1)) refl run
+
+-- a cut that a script can write places edges by their ends
+by_ends-written : (st : TypedStmt) → HasWrittenCut st → MovesByEnds st
+by_ends-written (stmts.Partition g cut) h = subst (λ c. c ≢ Rows) (sym h.1) (each-cut_word cut_of_written (λ c. c ≢ Rows) (λ e. cc) (λ e. cc) (λ e. cc) (λ e. cc) h.0)
+by_ends-written _ h = tt
+
+pub by_ends-all : (script : List CheckedStmt) → HaveWrittenCuts script → MoveByEnds script
+by_ends-all script cuts i t at = by_ends-written t.stmt (cuts i t at)
 
 by_ends-at : (script : List CheckedStmt) (i : ℕ) (o : Option CheckedStmt) → slice_get script i ≡ o → MoveByEnds script → MovesByEnds (stmt_or_none o)
 by_ends-at script i None at h = tt

@@ -3,9 +3,9 @@
 ghost use Rattle.std.specs.Prelude.{◌≡◌, ◌<◌, ◌≤◌, ◌-◌, IfOk, None, false, get_or, length, map, true};
 ghost use Rattle.std.specs.Option.{option_to_list};
 ghost use Rattle.gx_lineage.specs.Lineage.{IsSound};
-ghost use Rattle.gx_types.specs.SoundStmts.{AreRun, MoveByEnds};
+ghost use Rattle.gx_types.specs.SoundStmts.{AreRun};
 ghost use Rattle.gx_plan.specs.PlanInvariant.{HasNodeFor, IsPlan};
-ghost use Rattle.gx_plan.specs.PlanLaws.{HasSorts};
+ghost use Rattle.gx_plan.specs.PlanLaws.{HasSorts, MoveByEnds};
 ghost use Rattle.gx_plan.specs.Plans.{IsAdded, empty_plan, node_of, phases_of, recipe_at};
 ghost use Rattle.gx_plan.specs.Recipes.{recipe_of};
 ghost use Rattle.gx_plan.specs.StmtNodes.{phase_recipes, statement_of};

@@ -8,7 +8,7 @@ use Rattle.gx_syntax_tree.specs.declared.stmt.Stmt.{Stmt}
 use Rattle.gx_types.specs.Built.{built_statements, is_built, is_run}
 use Rattle.gx_types.specs.Needs.{NamesAreUsed, UseEarlier}
 use Rattle.gx_types.specs.ScriptTyping.{numbered_stmt, typed_statements, typed_statements_of}
-use Rattle.gx_types.specs.SoundStmts.{AreRun, HasSoundStmts, MoveByEnds, MovesByEnds}
+use Rattle.gx_types.specs.SoundStmts.{AreRun, HasSoundStmts, HasWrittenCut, HaveWrittenCuts}
 use Rattle.gx_types.specs.StmtSorts.{HasNamedSorts, IsMadeWithin, named_sorts, sort_made, sort_of_number}
 use Rattle.gx_types.specs.TypeStops.{at_statement}
 use Rattle.gx_types.specs.declared.type_stop.TypeStop.{TypeStop}
@@ -23,15 +23,16 @@ use Rattle.gx_types_stmts.specs.declared.checked_stmt.CheckedStmt.{CheckedStmt}
 use Rattle.gx_types_stmts.specs.declared.known.Definition.{Definition}
 use Rattle.gx_types_stmts.specs.declared.sort.Sort.{Sort}
 use Rattle.gx_types_stmts.specs.declared.stmt_stop.StmtStop.{StmtStop}
+use Rattle.gx_types.proofs.ScriptWalk.{AreTypedStmts, typed-all}
 use Rattle.gx_types.proofs.TypedBodies.{FitsWritten, after-step, body-fits, made-of_sort, sort_if_used, sort_of_types}
 use Rattle.gx_types.proofs.UseLemmas.{pushed-at}
 
 -- ---- steps that may stop
 
 -- what holds of a step, and then of what comes after it
-after-fact : {A B E : Type 0} (Q : A → Type 0) (P : B → Type 0) (r : Result A E) (next : A → Result B E) → IfOk r Q → ((x : A) → Q x → IfOk (next x) P) → IfOk (r >>= next) P
-after-fact Q P (Ok x) next q h = h x q
-after-fact Q P (Err e) next q h = tt
+after-fact : {A B E : Type 0} (r : Result A E) (Q : A → Type 0) (P : B → Type 0) (next : A → Result B E) → IfOk r Q → ((x : A) → Q x → IfOk (next x) P) → IfOk (r >>= next) P
+after-fact (Ok x) Q P next q h = h x q
+after-fact (Err e) Q P next q h = tt
 
 numbered-fact : (P : CheckedStmt → Type 0) (n : ℕ) (r : Result CheckedStmt StmtStop) → IfOk r P → IfOk (at_statement n r) P
 numbered-fact P n (Ok t) h = h
@@ -75,7 +76,7 @@ within-more : (ts us : List CheckedStmt) (n m : ℕ) (e : Sort × ℕ) → n ≤
 within-more ts us n m e more h = record {
   from_one = h.from_one;
   within = omega (arith, more, h.within);
-  made = at-append (λ c. sort_made c.stmt) ts us (e.1 - 1) e.0 h.made;
+  made = at-append (λ (c : CheckedStmt). sort_made c.stmt) ts us (e.1 - 1) e.0 h.made;
 }
 
 longer : (ts : List CheckedStmt) (t : CheckedStmt) → length (ts ++ t ∷ []) ≡ length ts + 1
@@ -124,19 +125,19 @@ pub record IsSoundNext (ts : List CheckedStmt) (s : Stmt) (t : CheckedStmt) : Ty
   pub sorts : AllByRecursion (IsMadeWithin ts (length ts)) (named_sorts t.stmt)
   pub makes : sort_made t.stmt ≡ sort_of_types t.made.vertices t.made.edges
   pub run : is_run t.stmt ≡ is_built s
-  pub by_ends : MovesByEnds t.stmt
+  pub cut : HasWrittenCut t.stmt
 
 stmt-sound : (k : Context) (ts : List CheckedStmt) (s : Stmt) → KnowsSorts k ts → IfOk (typed_stmt k s) (IsSoundNext ts s)
 stmt-sound k ts s known =
     after-step (IsSoundNext ts s) (free_name k (named_parts s).new_name) _ (λ free.
-    after-fact (IsOperandOf ts (named_parts s).first) (IsSoundNext ts s) (used_operand k (named_parts s).first) _ (used-made k ts (named_parts s).first known) (λ a first.
-    after-fact (IsOperandOf ts (named_parts s).second) (IsSoundNext ts s) (used_operand k (named_parts s).second) _ (used-made k ts (named_parts s).second known) (λ b second.
+    after-fact (used_operand k (named_parts s).first) (IsOperandOf ts (named_parts s).first) (IsSoundNext ts s) _ (used-made k ts (named_parts s).first known) (λ a first.
+    after-fact (used_operand k (named_parts s).second) (IsOperandOf ts (named_parts s).second) (IsSoundNext ts s) _ (used-made k ts (named_parts s).second known) (λ b second.
     after-step (IsSoundNext ts s) (checked_lists k.rounds (named_parts s)) _ (λ lists.
-    after-fact (FitsWritten a b s) (IsSoundNext ts s) (typed_body a b s) _ (body-fits a b s) (λ t fit. record {
+    after-fact (typed_body a b s) (λ t. FitsWritten a b s t.stmt t.made) (IsSoundNext ts s) _ (body-fits a b s) (λ t fit. record {
       sorts = subst (AllByRecursion (IsMadeWithin ts (length ts))) (sym fit.sorts) (all-append (IsMadeWithin ts (length ts)) (sort_if_used (named_parts s).first a) (sort_if_used (named_parts s).second b) first second);
       makes = fit.makes;
       run = fit.run;
-      by_ends = fit.by_ends;
+      cut = fit.cut;
     })))))
 
 -- ---- what is known after it
@@ -172,17 +173,17 @@ known-next k ts s t known sound = record {
 record AreSoundStmts (ts : List CheckedStmt) : Type 0 where
   sorts : HasNamedSorts ts
   run : AreRun ts
-  by_ends : MoveByEnds ts
+  cuts : HaveWrittenCuts ts
 
 sound-none : AreSoundStmts []
-sound-none = record { sorts = λ i t e. cc; run = λ i t e. cc; by_ends = λ i t e. cc }
+sound-none = record { sorts = λ i t e. cc; run = λ i t e. cc; cuts = λ i t e. cc }
 
 sound-push : (ts : List CheckedStmt) (s : Stmt) (t : CheckedStmt) → AreSoundStmts ts → IsSoundNext ts s t → is_built s ≡ true → AreSoundStmts (ts ++ t ∷ [])
 sound-push ts s t h next built = record {
   sorts = each-push (λ i u. AllByRecursion (IsMadeWithin ts i) (named_sorts u.stmt)) (λ i u. AllByRecursion (IsMadeWithin (ts ++ t ∷ []) i) (named_sorts u.stmt)) ts t h.sorts
     (λ i u. more i (named_sorts u.stmt)) (more (length ts) (named_sorts t.stmt) next.sorts);
   run = each-push (λ i u. is_run u.stmt ≡ true) (λ i u. is_run u.stmt ≡ true) ts t h.run (λ i u e. e) (next.run ∙ built);
-  by_ends = each-push (λ i u. MovesByEnds u.stmt) (λ i u. MovesByEnds u.stmt) ts t h.by_ends (λ i u e. e) next.by_ends;
+  cuts = each-push (λ i u. HasWrittenCut u.stmt) (λ i u. HasWrittenCut u.stmt) ts t h.cuts (λ i u e. e) next.cut;
 }
   where
     more : (i : ℕ) (es : List (Sort × ℕ)) → AllByRecursion (IsMadeWithin ts i) es → AllByRecursion (IsMadeWithin (ts ++ t ∷ []) i) es
@@ -193,12 +194,16 @@ sound-rest : (stmts : List Stmt) (n : ℕ) (k : Context) (front : List CheckedSt
 sound-rest [] n k front built known h = subst AreSoundStmts (sym (append-nil front)) h
 sound-rest (s ∷ stmts) n k front built known h =
     let here : (is_built s ≡ true) × (built_statements (n + 1) stmts ≡ Ok tt) = built-split (is_built s) (built_statements (n + 1) stmts) _ built in
-    after-fact (IsSoundNext front s) (λ rest. AreSoundStmts (front ++ rest)) (numbered_stmt k s) _ (numbered-fact (IsSoundNext front s) (k.count + 1) (typed_stmt k s) (stmt-sound k front s known)) (λ t next.
-    after-fact (λ rest. AreSoundStmts ((front ++ t ∷ []) ++ rest)) (λ rest. AreSoundStmts (front ++ rest)) (typed_statements (context_with k s t.made) stmts) _
+    after-fact (numbered_stmt k s) (IsSoundNext front s) (λ rest. AreSoundStmts (front ++ rest)) _ (numbered-fact (IsSoundNext front s) (k.count + 1) (typed_stmt k s) (stmt-sound k front s known)) (λ t next.
+    after-fact (typed_statements (context_with k s t.made) stmts) (λ rest. AreSoundStmts ((front ++ t ∷ []) ++ rest)) (λ rest. AreSoundStmts (front ++ rest)) _
     (sound-rest stmts (n + 1) (context_with k s t.made) (front ++ t ∷ []) here.1 (known-next k front s t known next) (sound-push front s t h next here.0))
     (λ rest sound. subst AreSoundStmts (append_assoc front (t ∷ []) rest) sound))
 
-pub script-sound : (stmts : List Stmt) (ts : List CheckedStmt) → typed_statements_of stmts ≡ Ok ts → built_statements 1 stmts ≡ Ok tt → UseEarlier ts → All NamesAreUsed ts → HasSoundStmts ts
+script-sound : (stmts : List Stmt) (ts : List CheckedStmt) → typed_statements_of stmts ≡ Ok ts → built_statements 1 stmts ≡ Ok tt → UseEarlier ts → All NamesAreUsed ts → HasSoundStmts ts
 script-sound stmts ts typed built earlier named =
     let sound : AreSoundStmts ts = subst (λ r. IfOk r AreSoundStmts) typed (sound-rest stmts 1 no_context [] built (record { counted = refl; defined = tt }) sound-none) in
-    record { earlier = earlier; named = named; sorts = sound.sorts; run = sound.run; by_ends = sound.by_ends }
+    record { earlier = earlier; named = named; sorts = sound.sorts; run = sound.run; cuts = sound.cuts }
+
+-- all statements are checked, and then tested
+pub walked-sound : (xs : List Stmt) (i : ℕ) (k : Context) (ts : List CheckedStmt) → length xs ≤ i → AreTypedStmts xs i k ts → built_statements 1 xs ≡ Ok tt → HasSoundStmts ts
+walked-sound xs i k ts past h built = script-sound xs ts (typed-all xs i k ts past h) built h.earlier h.named

@@ -1,7 +1,7 @@
 -- Of which sort each statement makes a thing, and of which sorts those that it names have to be.
 --
 -- To add a statement, add its line in both tables.
-use Rattle.std.specs.Prelude.{◌≡◌, ℕ, ◌-◌, ◌≤◌, Option, None, Some, List, [], ◌∷◌, map, option_and_then, slice_get, codes, refl}
+use Rattle.std.specs.Prelude.{◌≡◌, ℕ, ◌-◌, ◌≤◌, Option, None, Some, List, [], ◌∷◌, map, option_and_then, slice_get, refl}
 use Rattle.std.specs.List.{AllByRecursion}
 use Rattle.gx_types_stmts.specs.StmtNumbers.{named_numbers}
 use Rattle.gx_types_stmts.specs.declared.checked_stmt.CheckedStmt.{CheckedStmt}

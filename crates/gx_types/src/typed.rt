@@ -4,7 +4,7 @@ ghost use Rattle.std.specs.Prelude.{◌≡◌, ◌-◌, ◌<◌, ◌≤◌, ◌^
 ghost use Rattle.std.specs.Prelude.{vec_len};
 ghost use Rattle.std.specs.Option.{option_copied};
 ghost use Rattle.gx_types.specs.Needs.{NamesAreUsed, UseEarlier};
-ghost use Rattle.gx_types.specs.SoundStmts.{AreRun, HasSoundStmts, MoveByEnds};
+ghost use Rattle.gx_types.specs.SoundStmts.{AreRun, HasSoundStmts, HaveWrittenCuts};
 ghost use Rattle.gx_types.specs.StmtSorts.{HasNamedSorts};
 ghost use Rattle.gx_types_stmts.specs.StmtNumbers.{named_numbers};
 
@@ -22,7 +22,7 @@ pub struct Typed {
 impl Model for Typed {
     ghost use Rattle.std.specs.Prelude.{All, List, ◌<◌, ◌^◌, vec_len};
     ghost use Rattle.gx_types.specs.Needs.{NamesAreUsed, UseEarlier};
-    ghost use Rattle.gx_types.specs.SoundStmts.{AreRun, MoveByEnds};
+    ghost use Rattle.gx_types.specs.SoundStmts.{AreRun, HaveWrittenCuts};
     ghost use Rattle.gx_types.specs.StmtSorts.{HasNamedSorts};
     ghost use Rattle.gx_types_stmts.specs.declared.checked_stmt.CheckedStmt.{CheckedStmt as Statement};
     ghost use Rattle.gx_types_stmts.specs.contracts.checked_stmt.CheckedStmt as statement;
@@ -40,7 +40,7 @@ impl Model for Typed {
       named : All NamesAreUsed t.statements.items;
       sorts : HasNamedSorts t.statements.items;
       run : AreRun t.statements.items;
-      by_ends : MoveByEnds t.statements.items;
+      cuts : HaveWrittenCuts t.statements.items;
     } };
 }
 
@@ -63,14 +63,14 @@ impl Typed {
     }
 
     /// Tells laws of each script that is well typed: its statements use exactly those that they name,
-    /// which are earlier ones of the right sorts; all are run; and `partition` places edges by their
-    /// ends. It does nothing.
+    /// which are earlier ones of the right sorts; all are run; and the cut of `partition` is one that
+    /// a script can write. It does nothing.
     pub fn statements_are_sound(&self)
         ensures earlier { UseEarlier self.now }
         ensures named { All NamesAreUsed self.now }
         ensures sorts { HasNamedSorts self.now }
         ensures run { AreRun self.now }
-        ensures by_ends { MoveByEnds self.now }
+        ensures cuts { HaveWrittenCuts self.now }
     {
         let _statements = &self.statements;
     }
