@@ -150,7 +150,7 @@ last-defined ts s t d sound number made sort is = record {
   from_one = omega (arith, number);
   within = omega (arith, number, longer ts t);
   made = ap (λ j. option_and_then (λ (c : CheckedStmt). sort_made c.stmt) (slice_get (ts ++ t ∷ []) j)) at ∙ ap (option_and_then (λ (c : CheckedStmt). sort_made c.stmt)) (at-end ts t)
-    ∙ sound.makes ∙ made-of_sort sort t.made (subst (λ m. is_of_sort sort m ≡ true) made is);
+      ∙ sound.makes ∙ made-of_sort sort t.made (subst (λ m. is_of_sort sort m ≡ true) made is);
 }
   where
     at : d.number - 1 ≡ length ts
@@ -164,8 +164,8 @@ known-next : (k : Context) (ts : List CheckedStmt) (s : Stmt) (t : CheckedStmt) 
 known-next k ts s t known sound = record {
   counted = omega (arith, known.counted, longer ts t);
   defined = named-more (IsDefinedBy (ts ++ t ∷ [])) k.names (named_parts s).new_name (record { number = k.count + 1; made = t.made })
-    (all-weaker (λ e. IsDefinedBy ts e.1) (λ e. IsDefinedBy (ts ++ t ∷ []) e.1) k.names (λ e h. defined-more ts t e.1 h) known.defined)
-    (last-defined ts s t (record { number = k.count + 1; made = t.made }) sound (omega (arith, known.counted)) refl);
+      (all-weaker (λ e. IsDefinedBy ts e.1) (λ e. IsDefinedBy (ts ++ t ∷ []) e.1) k.names (λ e h. defined-more ts t e.1 h) known.defined)
+      (last-defined ts s t (record { number = k.count + 1; made = t.made }) sound (omega (arith, known.counted)) refl);
 }
 
 -- ---- a script
@@ -181,7 +181,7 @@ sound-none = record { sorts = λ i t e. cc; run = λ i t e. cc; cuts = λ i t e.
 sound-push : (ts : List CheckedStmt) (s : Stmt) (t : CheckedStmt) → AreSoundStmts ts → IsSoundNext ts s t → is_built s ≡ true → AreSoundStmts (ts ++ t ∷ [])
 sound-push ts s t h next built = record {
   sorts = each-push (λ i u. AllByRecursion (IsMadeWithin ts i) (named_sorts u.stmt)) (λ i u. AllByRecursion (IsMadeWithin (ts ++ t ∷ []) i) (named_sorts u.stmt)) ts t h.sorts
-    (λ i u. more i (named_sorts u.stmt)) (more (length ts) (named_sorts t.stmt) next.sorts);
+      (λ i u. more i (named_sorts u.stmt)) (more (length ts) (named_sorts t.stmt) next.sorts);
   run = each-push (λ i u. is_run u.stmt ≡ true) (λ i u. is_run u.stmt ≡ true) ts t h.run (λ i u e. e) (next.run ∙ built);
   cuts = each-push (λ i u. HasWrittenCut u.stmt) (λ i u. HasWrittenCut u.stmt) ts t h.cuts (λ i u e. e) next.cut;
 }
