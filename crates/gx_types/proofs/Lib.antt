@@ -1,4 +1,5 @@
 mod BuiltLemmas
+pub mod CutWords
 mod ScriptWalk
 mod SoundScripts
 mod TypedBodies

@@ -7,8 +7,6 @@ use Rattle.gx_rows.specs.Results.{◌>>=◌}
 use Rattle.gx_syntax_tree.specs.Bounds.{node_count}
 use Rattle.gx_syntax_tree.specs.declared.stmt.Stmt.{Stmt}
 use Rattle.gx_syntax_tree.specs.declared.stmt.Stmt.TheVariants as stmts
-use Rattle.gx_syntax_tree.specs.declared.words.CutWord.{CutWord}
-use Rattle.gx_syntax_tree.specs.declared.words.CutWord.TheVariants as cut_words
 use Rattle.gx_types.specs.Built.{is_built, is_run}
 use Rattle.gx_types.specs.SoundStmts.{HasWrittenCut}
 use Rattle.gx_types.specs.StmtSorts.{named_sorts, sort_made}
@@ -121,11 +119,3 @@ body-fits a b (stmts.PrintTable t) = record { sorts = refl; makes = refl; run = 
 body-fits a b (stmts.CountVertices g) = record { sorts = refl; makes = refl; run = refl; cut = tt }
 body-fits a b (stmts.CountEdges g) = record { sorts = refl; makes = refl; run = refl; cut = tt }
 body-fits a b (stmts.CountTable t) = record { sorts = refl; makes = refl; run = refl; cut = tt }
-
--- what holds of what each word of a cut stands for
-pub each-cut_word : {A : Type 0} (meaning : CutWord → A) (P : A → Type 0) → P (meaning cut_words.OneD) → P (meaning cut_words.TwoD) → P (meaning cut_words.Random) → P (meaning cut_words.Canonical)
-    → (word : CutWord) → P (meaning word)
-each-cut_word meaning P one two random canonical cut_words.OneD = one
-each-cut_word meaning P one two random canonical cut_words.TwoD = two
-each-cut_word meaning P one two random canonical cut_words.Random = random
-each-cut_word meaning P one two random canonical cut_words.Canonical = canonical
