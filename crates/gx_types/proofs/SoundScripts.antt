@@ -1,5 +1,5 @@
 -- The statements of a script that passed its checks are sound.
-use Rattle.std.proofs.Common.{◌≡◌, ℕ, zero, suc, ◌+◌, ◌-◌, ◌<◌, ◌≤◌, All, Bool, true, false, cond, if◌then◌else◌, Option, Some, None, option_and_then, Result, Ok, Err, IfOk, IfSome, List, [], ◌∷◌, ◌++◌, length, slice_get, length-append, append_assoc, append-nil, refl, sym, ap, subst, ◌∙◌, inl, inr, arith}
+use Rattle.std.proofs.Common.{◌≡◌, ℕ, zero, suc, ◌+◌, ◌-◌, ◌≤◌, All, Bool, true, false, cond, if◌then◌else◌, Option, Some, None, option_and_then, Result, Ok, Err, IfOk, IfSome, List, [], ◌∷◌, ◌++◌, length, slice_get, length-append, append_assoc, append-nil, refl, sym, ap, subst, ◌∙◌, inl, inr, arith}
 use Rattle.std.specs.List.{AllByRecursion}
 use Rattle.std.specs.Map.{lookup}
 use Rattle.std.specs.Str.{bytes_eq}
@@ -9,7 +9,7 @@ use Rattle.gx_types.specs.Built.{built_statements, is_built, is_run}
 use Rattle.gx_types.specs.Needs.{NamesAreUsed, UseEarlier}
 use Rattle.gx_types.specs.ScriptTyping.{numbered_stmt, typed_statements, typed_statements_of}
 use Rattle.gx_types.specs.SoundStmts.{AreRun, HasSoundStmts, HasWrittenCut, HaveWrittenCuts}
-use Rattle.gx_types.specs.StmtSorts.{HasNamedSorts, IsMadeWithin, named_sorts, sort_made, sort_of_number}
+use Rattle.gx_types.specs.StmtSorts.{HasNamedSorts, IsMadeWithin, named_sorts, sort_made}
 use Rattle.gx_types.specs.TypeStops.{at_statement}
 use Rattle.gx_types.specs.declared.type_stop.TypeStop.{TypeStop}
 use Rattle.gx_types_exprs.specs.declared.type_kind.TypeKind.TheVariants as type_kind
