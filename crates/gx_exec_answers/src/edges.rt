@@ -14,12 +14,12 @@ use gx_epart::{EPart, edge_order_is_unique};
 use gx_rows::{NoMemory, Row, RowType, Text, Value, Vid};
 use std::alloc::Global;
 
-/// The edges of all these partitions by source, then by destination, then by row, under `src`, `dst`
-/// and the names of the columns. Equal edges are repeated.
+/// The edges of all these partitions by source, then by destination, then by row, under `src`,
+/// `dst` and the names of the columns. Equal edges are repeated.
 ///
 /// # Errors
 ///
-/// `NoMemory` if memory for the answer runs out, or for two numbers and a reference for each edge.
+/// `NoMemory` if memory for the answer runs out, or for a list of references to the edges.
 pub fn edges_answer(
     alloc: Global,
     columns: Option<&RowType>,

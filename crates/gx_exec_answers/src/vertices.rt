@@ -19,7 +19,7 @@ use std::alloc::Global;
 ///
 /// # Errors
 ///
-/// `NoMemory` if memory for the answer runs out, or for two numbers and a reference for each vertex.
+/// `NoMemory` if memory for the answer runs out, or for a list of references to the vertices.
 pub fn vertices_answer(
     alloc: Global,
     columns: Option<&RowType>,
