@@ -31,9 +31,13 @@ ForcesTo (Ok x) fault = fault ≡ None
 ForcesTo (Err (run_stop.Fault f)) fault = fault ≡ Some f
 ForcesTo (Err run_stop.NoMemory) fault = ⊤
 
+-- no block of the plan is stopped
+abbrev pub AreQuiet : PlannedWorld → Type 0
+AreQuiet e = AreQuietBelow e.world e.planned (length e.planned.lineage.nodes)
+
 -- no block of the plan is stopped, and no statement that was added has a fault
 pub record IsSteady (e : PlannedWorld) : Type 0 where
-  pub quiet : AreQuietBelow e.world e.planned (length e.planned.lineage.nodes)
+  pub quiet : AreQuiet e
   pub clean : (s : ℕ) → IsAdded e.planned s → fault_of_number (loaded_of e.world) s ≡ None
 
 -- each block that the cluster holds or has captured is a content

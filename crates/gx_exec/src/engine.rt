@@ -1,49 +1,16 @@
 //! The engine.
 
-ghost use Rattle.std.specs.Prelude.{
-  ◌≡◌,
-  ◌≢◌,
-  ◌≤◌,
-  ◌<◌,
-  ◌^◌,
-  ◌-◌,
-  ◌↔◌,
-  ℕ,
-  [],
-  None,
-  Some,
-  false,
-  true,
-  IfErr,
-  IfOk,
-  IsSome,
-  IsTrue,
-  OnOk,
-  flat_map,
-  length,
-  slice_get,
-};
-ghost use Rattle.gx_cluster.specs.States.{shape};
-ghost use Rattle.gx_cluster_state.specs.Shapes.{all_held};
-ghost use Rattle.gx_exec.specs.Courses.{EndsAs, StopsAs, answered, forced, targets_of, was_added};
-ghost use Rattle.gx_exec.specs.Engines.{
-  ForcesTo,
-  HoldsWorkOf,
-  IsSteady,
-  MayForce,
-  action_answer,
-  loaded_of,
-  point_of,
-};
-ghost use Rattle.gx_model.specs.ScriptMeaning.{fault_of_action, fault_of_number, stmts_in};
-ghost use Rattle.gx_plan.specs.PlanInvariant.{IsFrontOf};
-ghost use Rattle.gx_plan.specs.Plans.{IsAdded, empty_plan, phases_of};
+ghost use Rattle.std.specs.Prelude.{◌≡◌, ◌≤◌, ◌<◌, ◌^◌, ◌-◌, ◌++◌, ◌↔◌, IfOk, IsSome, IsTrue, OnOk, Some, length, slice_get};
+ghost use Rattle.std.specs.List.{range_with_len};
+ghost use Rattle.gx_exec.specs.Courses.{targets_of};
+ghost use Rattle.gx_exec.specs.Engines.{IsSteady, action_answer, loaded_of};
+ghost use Rattle.gx_lineage.specs.Lineage.{blocks_at};
+ghost use Rattle.gx_model.specs.ScriptMeaning.{stmts_in};
+ghost use Rattle.gx_plan.specs.Plans.{empty_plan};
 
-use crate::RunStop;
-use gx_cluster::{Cluster, Events};
 use gx_cuts::Cut;
-use gx_exec_work::{Block, GraphWork};
-use gx_lineage::BlockId;
+use gx_exec_work::GraphWork;
+use gx_lineage::{BlockId, NodeId};
 use gx_load::Loads;
 use gx_rows::NoMemory;
 use gx_types::{Typed, TypedStmt};
@@ -130,85 +97,38 @@ impl Engine {
         self.work.plan().typed().statement(s)
     }
 
-    /// Runs statement `s`, if it was not added: its nodes are added to the plan, and phase by phase
-    /// the cluster computes all blocks of the phase, up to the first phase with a fault. All
-    /// statements that it names were added. `s` is not an action: `answer` runs those.
-    ///
-    /// # Errors
-    ///
-    /// The fault of the statement; `NoMemory`. The blocks that were computed stay in the cluster.
-    pub fn force(
-        &mut self,
-        cluster: &mut Cluster<Block>,
-        events: &mut Events,
-        s: u32,
-    ) -> Result<(), RunStop>
-        requires may { MayForce self.old s }
-        requires steady { IsSteady self.old }
-        requires contents { HoldsWorkOf self.old cluster.old }
-        requires no_events { events.old ≡ [] }
-        ensures ok { OnOk result (EndsAs self.old.world
-            (forced self.old.world self.old.planned s) None self.new.planned
-            (point_of cluster.old) (point_of cluster.new)) }
-        ensures stop { IfErr result (λ stop. StopsAs stop self.old.world
-            (forced self.old.world self.old.planned s) self.new.planned
-            (point_of cluster.old) (point_of cluster.new)) }
-        ensures exact { ForcesTo result (fault_of_number (loaded_of self.old.world) s) }
-        ensures world_kept { self.new.world ≡ self.old.world }
-        ensures front { IsFrontOf self.old.planned self.new.planned }
-        ensures contents_kept { HoldsWorkOf self.new cluster.new }
-        ensures steady_kept { OnOk result (IsSteady self.new) }
-        ensures added { OnOk result (IsAdded self.new.planned s) }
-        ensures others_kept { (n : ℕ) → n ≢ s → 1 ≤ n
-            → was_added self.new.planned n ≡ was_added self.old.planned n }
-        ensures workers_kept { length cluster.new.running ≡ length cluster.old.running }
-        ensures events_kept { events.new ≡ events.old }
+    // The number of parts of each node.
+    pub(crate) fn parts(&self) -> u32
+        ensures { result ≡ self.now.world.parts }
     {
-        let _ = s;
-        Err(RunStop::NoMemory)
+        self.work.is_set();
+        self.work.plan().dag().parts()
     }
 
-    /// Runs the statements that action `a` uses, in order, up to the first that has a fault, and then
-    /// the action: the cluster computes the blocks that it prints. They are returned in the order of
-    /// parts, and the cluster holds them all.
-    ///
-    /// # Errors
-    ///
-    /// The fault of the first statement that the action uses and that has one; `NoMemory`. The blocks
-    /// that were computed stay in the cluster.
-    pub fn answer(
-        &mut self,
-        cluster: &mut Cluster<Block>,
-        events: &mut Events,
-        a: u32,
-    ) -> Result<Vec<BlockId>, RunStop>
-        requires from_one { 1 ≤ a }
-        requires within { a ≤ length self.old.world.script }
-        requires is_action { IsSome (action_answer (loaded_of self.old.world) a) }
-        requires fresh { was_added self.old.planned a ≡ false }
-        requires steady { IsSteady self.old }
-        requires contents { HoldsWorkOf self.old cluster.old }
-        requires no_events { events.old ≡ [] }
-        ensures ok { OnOk result (EndsAs self.old.world
-            (answered self.old.world self.old.planned a) None self.new.planned
-            (point_of cluster.old) (point_of cluster.new)) }
-        ensures stop { IfErr result (λ stop. StopsAs stop self.old.world
-            (answered self.old.world self.old.planned a) self.new.planned
-            (point_of cluster.old) (point_of cluster.new)) }
-        ensures exact { ForcesTo result (fault_of_action (loaded_of self.old.world) a) }
-        ensures world_kept { self.new.world ≡ self.old.world }
-        ensures front { IsFrontOf self.old.planned self.new.planned }
-        ensures contents_kept { HoldsWorkOf self.new cluster.new }
-        ensures steady_kept { OnOk result (IsSteady self.new) }
-        ensures later_kept { (n : ℕ) → a < n
-            → was_added self.new.planned n ≡ was_added self.old.planned n }
-        ensures workers_kept { length cluster.new.running ≡ length cluster.old.running }
-        ensures events_kept { events.new ≡ events.old }
-        ensures held { IfOk result (λ bs. all_held (shape cluster.new) bs.items ≡ true) }
-        ensures blocks { IfOk result (λ bs. bs.items ≡ targets_of self.new.world
-            (flat_map (λ ns. ns) (phases_of self.new.world.script self.new.planned a))) }
+    // Adds to `blocks` all blocks of these nodes.
+    pub(crate) fn push_blocks(
+        &self,
+        blocks: &mut Vec<BlockId>,
+        nodes: &[NodeId],
+    ) -> Result<(), NoMemory>
+        ensures { OnOk result
+            (blocks.new.items ≡ blocks.old.items ++ targets_of self.now.world nodes.now) }
     {
-        let _ = a;
-        Err(RunStop::NoMemory)
+        let parts = self.parts();
+        for node in nodes {
+            push_each(blocks, *node, parts)?;
+        }
+        Ok(())
     }
+}
+
+// Adds to `blocks` the first blocks of a node.
+fn push_each(blocks: &mut Vec<BlockId>, node: NodeId, parts: u32) -> Result<(), NoMemory>
+    ensures { OnOk result
+        (blocks.new.items ≡ blocks.old.items ++ blocks_at node (range_with_len 0 parts)) }
+{
+    for part in 0..parts {
+        blocks.push(BlockId { node, part })?;
+    }
+    Ok(())
 }

@@ -8,7 +8,11 @@
 //! block is computed, and it prints nothing.
 #![tactic(auto)]
 
+mod answering;
 mod engine;
+mod forcing;
+mod found_stop;
+mod judging;
 mod run_stop;
 
 pub use engine::Engine;
