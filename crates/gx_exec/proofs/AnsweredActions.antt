@@ -30,10 +30,10 @@ use Rattle.gx_exec_work.specs.declared.block.Block.{Block}
 use Rattle.gx_exec.specs.declared.run_stop.RunStop.{RunStop}
 use Rattle.gx_exec.specs.declared.run_stop.RunStop.TheVariants as run_stop
 use Rattle.gx_exec.specs.Courses.{Course, EndsAs, PassesAs, StopsAs, answered, fault_of_phase, forced, forced_all, joined, phase, phases, still, targets_of, was_added}
-use Rattle.gx_exec.specs.Engines.{ForcesTo, HoldsWorkOf, IsSteady, MayForce, action_answer, loaded_of, point_of}
+use Rattle.gx_exec.specs.Engines.{ForcesTo, HoldsWorkOf, IsSteady, MayForce, action_answer, loaded_of, point_of, with_stmt}
 use Rattle.gx_exec.proofs.CourseFaults.{found-statement, front-forced, front-forced_all}
 use Rattle.gx_exec.proofs.CourseRuns.{OnCourse, course-breaks, course-ends, course-last, course-last_stops, course-more, course-starts, course-stops, course-waits, front-same, passes-all}
-use Rattle.gx_exec.proofs.ForcedStatements.{forced-phases, phased, with_stmt}
+use Rattle.gx_exec.proofs.ForcedStatements.{forced-phases}
 use Rattle.gx_exec.proofs.NeededStatements.{AreForcedTo, AreForcedTo-more, AreForcedTo-none, last-may, next-may, used-low, used-range}
 
 -- ---- statements in order
@@ -67,9 +67,6 @@ module _ (a : ℕ) (e : PlannedWorld) (c : State Block) (world : IsWorld e.world
   }
 
   module _ (f : PlannedWorld) (d : State Block) (left : List ℕ) (s : ℕ) (ss : List ℕ) (el : left ≡ s ∷ ss) (all : IsForcing a e c f d left) where
-    abbrev here : IsForcing a e c f d (s ∷ ss)
-    here = subst (IsForcing a e c f d) el all
-
     pub forcing-may : MayForce f s
     forcing-may = subst (λ v. MayForce (record { world = v; planned = f.planned }) s) (sym all.world)
         (next-may e.world world a low high f.planned s ss (subst (IsForcing a e c f d) el all).order)

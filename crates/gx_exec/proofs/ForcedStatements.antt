@@ -14,7 +14,7 @@ use Rattle.gx_exec_work.specs.declared.block.Block.{Block}
 use Rattle.gx_exec.specs.declared.run_stop.RunStop.{RunStop}
 use Rattle.gx_exec.specs.declared.run_stop.RunStop.TheVariants as run_stop
 use Rattle.gx_exec.specs.Courses.{Course, EndsAs, PassesAs, StopsAs, forced, phases, still, was_added}
-use Rattle.gx_exec.specs.Engines.{AreQuiet, ForcesTo, HoldsWorkOf, IsSteady, MayForce, loaded_of, point_of}
+use Rattle.gx_exec.specs.Engines.{AreQuiet, ForcesTo, HoldsWorkOf, IsSteady, MayForce, loaded_of, point_of, with_stmt}
 use Rattle.gx_exec.specs.Phases.{AreNext}
 use Rattle.gx_exec.proofs.CourseRuns.{OnCourse, front-same}
 use Rattle.gx_exec.proofs.FreshStatements.{added-cases, added-here, others-kept}
@@ -31,10 +31,6 @@ pub record IsPhased (e : PlannedWorld) (s : ℕ) (start c : State Block) (all re
   pub course : OnCourse e.world (phases e.world s all e.planned) (phases e.world s rest e.planned) (point_of start) (point_of c)
 
 -- ---- a plan with one more statement
-
--- the engine with statement s in its plan
-abbrev pub with_stmt : PlannedWorld → ℕ → PlannedWorld
-with_stmt e s = record { world = e.world; planned = with_number e.world.script e.planned s }
 
 abbrev pub phases_in : PlannedWorld → ℕ → List (List NodeId)
 phases_in e s = phases_of e.world.script e.planned s
@@ -101,8 +97,8 @@ module _ (e f : PlannedWorld) (s : ℕ) (fresh : was_added e.planned s ≡ false
 -- ---- no statement was added
 
 no-result : (n i : ℕ) → is_some (get_or (replicate n None) i None) ≡ true → ⊥
-no-result 0 i e = cc
-no-result (suc n) 0 e = cc
+no-result zero i e = cc
+no-result (suc n) zero e = cc
 no-result (suc n) (suc i) e = no-result n i e
 
 pub empty-steady : (e : PlannedWorld) (w : World) (parts n : ℕ) → e ≡ record { world = w; planned = empty_plan parts n } → IsSteady e

@@ -24,18 +24,16 @@ pub added-was : (p : Planned) (s : ℕ) → IsAdded p s → was_added p s ≡ tr
 added-was p s added = added.result
 
 module _ (script : List CheckedStmt) (p : Planned) (s : ℕ) (from_one : 1 ≤ s) where
-  l : ResultNodes
+  abbrev l : ResultNodes
   l = result_of p (statement_of script s)
 
   -- the result of statement s, and of another one
   pub result-here : IsPlan script p → s ≤ length script → get_or (with_number script p s).results (s - 1) None ≡ Some (result_of p (statement_of script s))
-  unfolding l
   result-here plan within =
       let old = (with_recipes script p (own_recipes s (statement_of script s))).results in
       get_or-set_same old (s - 1) (Some l) None (omega (arith, from_one, within, plan.results, ap length (results-kept script p (own_recipes s (statement_of script s)))))
 
   result-other : (n : ℕ) → n - 1 ≢ s - 1 → get_or (with_number script p s).results (n - 1) None ≡ get_or p.results (n - 1) None
-  unfolding l
   result-other n apart =
       get_or-set_other (with_recipes script p (own_recipes s (statement_of script s))).results (s - 1) (n - 1) (Some l) None apart
       ∙ ap (λ xs. get_or xs (n - 1) None) (results-kept script p (own_recipes s (statement_of script s)))

@@ -39,20 +39,16 @@ none_mapped f (Some x) e = cc
 
 each-none : {X A : Type 0} (f : X → Option A) (xs : List X) → first_given f xs ≡ None → AllByRecursion (λ x. f x ≡ None) xs
 each-none f [] e = tt
-each-none f (x ∷ xs) e = by (f x) refl e
+each-none {X} {A} f (x ∷ xs) e = by (f x) refl (each-none f xs) e
   where
-    by : (o : Option A) → f x ≡ o → option_or o (first_given f xs) ≡ None → AllByRecursion (λ y. f y ≡ None) (x ∷ xs)
-    by None is e = (is, each-none f xs e)
-    by (Some a) is e = cc
+    by : (o : Option A) → f x ≡ o → (first_given f xs ≡ None → AllByRecursion (λ y. f y ≡ None) xs) → option_or o (first_given f xs) ≡ None → AllByRecursion (λ y. f y ≡ None) (x ∷ xs)
+    by None is more e = (is, more e)
+    by (Some a) is more e = cc
 
 module _ (e : PlannedWorld) (setting : IsSetting e.world e.planned) (s : ℕ) (ns : List NodeId) (may : MayJudge e ns) where
   judged-each : (ms : List NodeId) → MayJudge e ms → first_given (least_stop e.world e.planned) ms ≡ first_given (λ n. fault_in e.world (recipe_at e.planned.recipes n.0)) ms
   judged-each [] may = refl
   judged-each (n ∷ ms) may = ap₂ option_or (stops-are_faults e.world e.planned setting n may.0.0 may.0.1) (judged-each ms may.1)
-
-  -- what the judge is to find
-  abbrev pub found : Option Fault
-  found = option_map (fault_of_stop s) (first_given (least_stop e.world e.planned) ns)
 
   judged-ends : (f : Option Fault) (x y : Point) → option_map (fault_of_stop s) (first_given (least_stop e.world e.planned) ns) ≡ f → HasDemanded e (targets_of e.world ns) x y → all_held y.shape (targets_of e.world ns) ≡ true
       → EndsAs e.world (phase e.world s ns e.planned) f e.planned x y

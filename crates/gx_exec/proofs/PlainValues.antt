@@ -17,7 +17,7 @@ record IsAlike {A B : Type 0} (g : Graph A) (h : Graph B) : Type 0 where
   vertices : g.vertices ≡ h.vertices
   edges : plain_edges g.edges ≡ plain_edges h.edges
 
-AreAlike : {A B : Type 0} → List (Graph A) → List (Graph B) → Type 0
+abbrev AreAlike : {A B : Type 0} → List (Graph A) → List (Graph B) → Type 0
 AreAlike [] [] = ⊤
 AreAlike (g ∷ gs) (h ∷ hs) = IsAlike g h × AreAlike gs hs
 AreAlike _ _ = ⊥
@@ -28,7 +28,6 @@ plain-placed place n (e ∷ es) = ap (λ rest. e ∷ rest) (plain-placed place (
 
 alike-at : {A B : Type 0} (gs : List (Graph A)) (hs : List (Graph B)) (k : ℕ) → AreAlike gs hs
     → IsAlike (unwrap_or (slice_get gs k) (record { vertices = []; edges = [] })) (unwrap_or (slice_get hs k) (record { vertices = []; edges = [] }))
-unfolding AreAlike
 alike-at [] [] k all = record { vertices = refl; edges = refl }
 alike-at [] (h ∷ hs) k all = absurd all
 alike-at (g ∷ gs) [] k all = absurd all
@@ -36,7 +35,6 @@ alike-at (g ∷ gs) (h ∷ hs) zero all = all.0
 alike-at (g ∷ gs) (h ∷ hs) (suc k) all = alike-at gs hs k all.1
 
 alike-more : {A B : Type 0} (gs : List (Graph A)) (hs : List (Graph B)) (g : Graph A) (h : Graph B) → AreAlike gs hs → IsAlike g h → AreAlike (gs ++ g ∷ []) (hs ++ h ∷ [])
-unfolding AreAlike
 alike-more [] [] g h all one = (one, tt)
 alike-more [] (y ∷ hs) g h all one = absurd all
 alike-more (x ∷ gs) [] g h all one = absurd all
@@ -69,7 +67,6 @@ module _ {A B : Type 0} (place : ℕ → Edge → A) (other : ℕ → Edge → B
       alike-stmts (gs ++ g ∷ []) (hs ++ h ∷ []) (s + 1) ss (alike-more gs hs g h all (alike-stmt gs hs s st all))
 
   alike-script : (ss : List TypedStmt) → AreAlike (values_of_stmts place loads [] 1 ss) (values_of_stmts other loads [] 1 ss)
-  unfolding AreAlike
   alike-script ss = alike-stmts [] [] 1 ss tt
 
 alike-fault : {A B : Type 0} (gs : List (Graph A)) (hs : List (Graph B)) (s : ℕ) (st : TypedStmt) → AreAlike gs hs → fault_of_stmt gs s st ≡ fault_of_stmt hs s st

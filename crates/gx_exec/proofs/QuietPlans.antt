@@ -41,7 +41,7 @@ quiet-less w p m n less quiet b here below = quiet b here (omega (arith, below, 
 -- ---- nodes in a quiet plan have no fault
 
 least-none : (f : ℕ → Option BlockStop) (a n : ℕ) → ((j : ℕ) → j < a + n → f j ≡ None) → least_over f (range_with_len a n) ≡ None
-least-none f a 0 none = refl
+least-none f a zero none = refl
 least-none f a (suc n) none = rw (none a (omega arith)) (least-none f (a + 1) n (λ j below. none j (omega (arith, below))))
 
 pub quiet-fault : (w : World) (p : Planned) → IsSetting w p → AreQuietBelow w p (length p.lineage.nodes) → (n : NodeId) → n.0 < length p.lineage.nodes → fault_in w (recipe_at p.recipes n.0) ≡ None

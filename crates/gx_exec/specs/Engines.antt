@@ -10,7 +10,7 @@ use Rattle.gx_exec_work.specs.Works.{IsContentOf, PlannedWorld}
 use Rattle.gx_exec_work.specs.declared.block.Block.{Block}
 use Rattle.gx_model.specs.ActionAnswers.{Answer, answer_of_stmt}
 use Rattle.gx_model.specs.ScriptMeaning.{Loaded, fault_of_number, plain_values, stmts_in}
-use Rattle.gx_plan.specs.Plans.{IsAdded}
+use Rattle.gx_plan.specs.Plans.{IsAdded, with_number}
 use Rattle.gx_plan.specs.StmtNodes.{statement_of}
 use Rattle.gx_rows.specs.declared.fault.Fault.{Fault}
 use Rattle.gx_types_stmts.specs.StmtNumbers.{named_numbers}
@@ -53,3 +53,7 @@ pub record MayForce (e : PlannedWorld) (s : ℕ) : Type 0 where
   pub from_one : 1 ≤ s
   pub within : s ≤ length e.world.script
   pub named : AllByRecursion (IsAdded e.planned) (named_numbers (statement_of e.world.script s))
+
+-- the engine with statement s in its plan
+abbrev pub with_stmt : PlannedWorld → ℕ → PlannedWorld
+with_stmt e s = record { world = e.world; planned = with_number e.world.script e.planned s }

@@ -98,7 +98,7 @@ impl Engine {
         ensures workers_kept { length cluster.new.running ≡ length cluster.old.running }
         ensures events_kept { events.new ≡ events.old }
     {
-        self.work.is_set();
+        self.is_set();
         let Ok(needs) = self.needs(a) else {
             return Err(RunStop::NoMemory);
         };
@@ -116,7 +116,7 @@ impl Engine {
         requires within { s ≤ length self.now.world.script }
         ensures { IfOk result (λ needs. needs.items ≡ stmts_used self.now.world.script s) }
     {
-        self.work.is_set();
+        self.is_set();
         self.work.plan().typed().needs(s)
     }
 
@@ -127,7 +127,7 @@ impl Engine {
         ensures { IfOk result (λ bs. bs.items ≡ targets_of self.now.world
             (flat_map (λ ns. ns) (phases_of self.now.world.script self.now.planned s))) }
     {
-        let lists = self.work.plan().phases(s)?;
+        let lists = self.phases(s)?;
         let mut blocks = Vec::new(self.alloc);
         for nodes in &lists {
             self.push_blocks(&mut blocks, nodes.as_slice())?;

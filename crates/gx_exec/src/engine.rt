@@ -1,12 +1,13 @@
 //! The engine.
 
-ghost use Rattle.std.specs.Prelude.{◌≡◌, ◌≤◌, ◌<◌, ◌^◌, ◌-◌, ◌++◌, ◌↔◌, IfOk, IsSome, IsTrue, OnOk, Some, length, slice_get};
+ghost use Rattle.std.specs.Prelude.{◌≡◌, ◌≤◌, ◌<◌, ◌^◌, ◌-◌, ◌++◌, ◌↔◌, IfOk, IsSome, IsTrue, OnErr, OnOk, Some, false, length, map, slice_get};
 ghost use Rattle.std.specs.List.{range_with_len};
-ghost use Rattle.gx_exec.specs.Courses.{targets_of};
-ghost use Rattle.gx_exec.specs.Engines.{IsSteady, action_answer, loaded_of};
+ghost use Rattle.gx_exec.specs.Courses.{targets_of, was_added};
+ghost use Rattle.gx_exec.specs.Engines.{IsSteady, MayForce, action_answer, loaded_of, with_stmt};
+ghost use Rattle.gx_exec_contents.specs.Worlds.{IsSetting};
 ghost use Rattle.gx_lineage.specs.Lineage.{blocks_at};
 ghost use Rattle.gx_model.specs.ScriptMeaning.{stmts_in};
-ghost use Rattle.gx_plan.specs.Plans.{empty_plan};
+ghost use Rattle.gx_plan.specs.Plans.{empty_plan, phases_of};
 
 use gx_cuts::Cut;
 use gx_exec_work::GraphWork;
@@ -97,12 +98,49 @@ impl Engine {
         self.work.plan().typed().statement(s)
     }
 
+    // Tells the law of each engine: its world may be run, and the plan is one of its script. It does
+    // nothing.
+    pub(crate) fn is_set(&self)
+        ensures { IsSetting self.now.world self.now.planned }
+    {
+        self.work.is_set();
+    }
+
     // The number of parts of each node.
     pub(crate) fn parts(&self) -> u32
         ensures { result ≡ self.now.world.parts }
     {
-        self.work.is_set();
+        self.is_set();
         self.work.plan().dag().parts()
+    }
+
+    // Whether statement `s` was added.
+    pub(crate) fn is_added(&self, s: u32) -> bool
+        requires from_one { 1 ≤ s }
+        requires within { s ≤ length self.now.world.script }
+        ensures { result ≡ was_added self.now.planned s }
+    {
+        self.work.plan().is_added(s)
+    }
+
+    // Adds statement `s` to the plan.
+    pub(crate) fn extend(&mut self, s: u32) -> Result<(), NoMemory>
+        requires may { MayForce self.old s }
+        requires fresh { was_added self.old.planned s ≡ false }
+        ensures added { OnOk result (self.new ≡ with_stmt self.old s) }
+        ensures unchanged { OnErr result (self.new ≡ self.old) }
+    {
+        self.work.extend(s)
+    }
+
+    // The target nodes of each phase of statement `s`.
+    pub(crate) fn phases(&self, s: u32) -> Result<Vec<Vec<NodeId>>, NoMemory>
+        requires from_one { 1 ≤ s }
+        requires within { s ≤ length self.now.world.script }
+        ensures { IfOk result (λ lists. map (λ v. v.items) lists.items
+            ≡ phases_of self.now.world.script self.now.planned s) }
+    {
+        self.work.plan().phases(s)
     }
 
     // Adds to `blocks` all blocks of these nodes.

@@ -51,11 +51,11 @@ impl Engine {
         ensures workers_kept { length cluster.new.running ≡ length cluster.old.running }
         ensures events_kept { events.new ≡ events.old }
     {
-        self.work.is_set();
-        if self.work.plan().is_added(s) {
+        self.is_set();
+        if self.is_added(s) {
             return Ok(());
         }
-        if let Err(_) = self.work.extend(s) {
+        if let Err(_) = self.extend(s) {
             return Err(RunStop::NoMemory);
         }
         self.run_phases(cluster, events, s)
@@ -87,8 +87,8 @@ impl Engine {
         ensures workers_kept { length cluster.new.running ≡ length cluster.old.running }
         ensures events_kept { events.new ≡ events.old }
     {
-        self.work.is_set();
-        let Ok(lists) = self.work.plan().phases(s) else {
+        self.is_set();
+        let Ok(lists) = self.phases(s) else {
             return Err(RunStop::NoMemory);
         };
         for nodes in &lists {
@@ -121,7 +121,7 @@ impl Engine {
         ensures workers_kept { length cluster.new.running ≡ length cluster.old.running }
         ensures events_kept { events.new ≡ events.old }
     {
-        self.work.is_set();
+        self.is_set();
         if let Err(_) = self.compute(cluster, events, nodes) {
             return Err(RunStop::NoMemory);
         }
@@ -146,7 +146,7 @@ impl Engine {
         ensures workers_kept { length cluster.new.running ≡ length cluster.old.running }
         ensures events_kept { events.new ≡ events.old }
     {
-        self.work.is_set();
+        self.is_set();
         let mut targets = Vec::new(self.alloc);
         self.push_blocks(&mut targets, nodes)?;
         cluster.demand(&self.work, targets.as_slice(), events)
