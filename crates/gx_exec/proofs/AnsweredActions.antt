@@ -103,11 +103,11 @@ module _ (a : ℕ) (e : PlannedWorld) (c : State Block) (world : IsWorld e.world
         (front-forced_all e.world (forced e.world f.planned s).planned ss h.low.1) h.course
         (subst (λ v. StopsAs stop v (forced v f.planned s) left (point_of d) (point_of o)) h.world stops)
 
-    pub forcing-exact : {A B : Type 0} (stop : RunStop) → ForcesTo {A = A} (Err stop) (fault_of_number (loaded_of f.world) s) → ForcesTo {A = B} (Err stop) (fault_of_action (loaded_of e.world) a)
-    forcing-exact (run_stop.Fault x) exact =
+    pub forcing-exact : (A B : Type 0) (stop : RunStop) → ForcesTo {A = A} (Err stop) (fault_of_number (loaded_of f.world) s) → ForcesTo {A = B} (Err stop) (fault_of_action (loaded_of e.world) a)
+    forcing-exact A B (run_stop.Fault x) exact =
         let h : IsForcing a e c f d (s ∷ ss) = subst (IsForcing a e c f d) el all in
         sym h.fault ∙ ap (λ u. first_fault u (fault_among (loaded_of e.world) ss)) (subst (λ v. fault_of_number (loaded_of v) s ≡ Some x) h.world exact)
-    forcing-exact run_stop.NoMemory exact = tt
+    forcing-exact A B run_stop.NoMemory exact = tt
 
     pub forcing-later : (g : PlannedWorld) → ((n : ℕ) → n ≢ s → 1 ≤ n → was_added g.planned n ≡ was_added f.planned n) → (n : ℕ) → a ≤ n → was_added g.planned n ≡ was_added e.planned n
     forcing-later g others n above =
@@ -154,21 +154,24 @@ needs-stop w a low p left stop x y stops =
 
 -- an action has no fault of its own
 action-clean : {A B : Type 0} (checked : List CheckedStmt) (gs : List (Graph A)) (hs : List (Graph B)) (s : ℕ) (st : TypedStmt) → IsSome (answer_of_stmt checked gs st) → fault_of_stmt hs s st ≡ None
-action-clean checked gs hs s (stmts.MapVertices g sets) is = absurd is
+action-clean checked gs hs s (stmts.MapVertices g sets) is = cc
 action-clean checked gs hs s _ is = refl
 
 clean-at : (l : Loaded) (s : ℕ) (o : Option TypedStmt) → IsSome (option_and_then (answer_of_stmt l.checked (plain_values l)) o) → option_and_then (fault_of_stmt (plain_values l) s) o ≡ None
-clean-at l s None is = absurd is
+clean-at l s None is = cc
 clean-at l s (Some st) is = action-clean l.checked (plain_values l) (plain_values l) s st is
 
 pub no-fault : (l : Loaded) (s : ℕ) → IsSome (action_answer l s) → fault_of_number l s ≡ None
 no-fault l s is = clean-at l s (slice_get (stmts_in l) (s - 1)) is
 
-pub action-exact : {A B : Type 0} (l : Loaded) (a : ℕ) (stop : RunStop) → IsSome (action_answer l a) → ForcesTo {A = A} (Err stop) (fault_of_number l a) → ForcesTo {A = B} (Err stop) (fault_of_action l a)
-action-exact l a (run_stop.Fault f) is exact = let contrary : None ≡ Some f = sym (no-fault l a is) ∙ exact in absurd (cc)
-action-exact l a run_stop.NoMemory is exact = tt
+pub action-exact : (A B : Type 0) (l : Loaded) (a : ℕ) (stop : RunStop) → IsSome (action_answer l a) → ForcesTo {A = A} (Err stop) (fault_of_number l a) → ForcesTo {A = B} (Err stop) (fault_of_action l a)
+action-exact A B l a (run_stop.Fault f) is exact = let contrary : None ≡ Some f = sym (no-fault l a is) ∙ exact in absurd (cc)
+action-exact A B l a run_stop.NoMemory is exact = tt
 
 -- ---- its blocks are held
+
+not_true : false ≡ true → ⊥
+not_true e = cc
 
 demands-one : {A : Type 0} (checked : List CheckedStmt) (gs : List (Graph A)) (s : ℕ) (st : TypedStmt) → IsSome (answer_of_stmt checked gs st) → (r : Recipe) × (phase_recipes s st ≡ r ∷ [])
 demands-one checked gs s (stmts.PrintVertices g) is = (recipe_of kind.Vertices g, refl)
@@ -177,7 +180,7 @@ demands-one checked gs s (stmts.PrintTable t) is = (recipe_of kind.Vertices t, r
 demands-one checked gs s (stmts.CountVertices g) is = (recipe_of kind.Vertices g, refl)
 demands-one checked gs s (stmts.CountEdges g) is = (recipe_of kind.Edges g, refl)
 demands-one checked gs s (stmts.CountTable t) is = (recipe_of kind.Vertices t, refl)
-demands-one checked gs s _ is = absurd is
+demands-one checked gs s _ is = absurd (not_true is)
 
 one-phase : (w : World) (s : ℕ) → 1 ≤ s → s ≤ length w.script → IsSome (action_answer (loaded_of w) s) → (p : Planned) → (ns : List NodeId) × (phases_of w.script p s ≡ ns ∷ [])
 one-phase w s low high is p =

@@ -1,5 +1,5 @@
 -- One statement: it was added before, or it is added and its phases are gone through.
-use Rattle.std.proofs.Common.{◌≡◌, ◌≢◌, ℕ, zero, suc, ◌<◌, ◌≤◌, ◌+◌, ◌-◌, Bool, true, false, cond, List, [], ◌∷◌, drop, map, get_or, is_some, length, replicate, Option, Some, None, Result, Ok, Err, IfErr, OnOk, inl, inr, refl, sym, ap, ◌∙◌, subst, arith}
+use Rattle.std.proofs.Common.{◌≡◌, ◌≢◌, ℕ, ◌<◌, ◌≤◌, ◌+◌, ◌-◌, Bool, true, false, cond, List, [], ◌∷◌, drop, map, get_or, is_some, length, replicate, Option, Some, None, Result, Ok, Err, IfErr, OnOk, inl, inr, refl, sym, ap, ◌∙◌, subst, arith}
 use Rattle.gx_cluster.specs.States.{State}
 use Rattle.gx_cluster_state.specs.Runs.{Point}
 use Rattle.gx_lineage.specs.declared.node_id.NodeId.{NodeId}
@@ -93,16 +93,3 @@ module _ (e f : PlannedWorld) (s : ℕ) (fresh : was_added e.planned s ≡ false
     pub after-steady : {A : Type 0} (r : Result A RunStop) → OnOk r (AreQuiet f) → ForcesTo r (fault_of_number (loaded_of e.world) s) → OnOk r (IsSteady f)
     after-steady (Ok a) quiet exact = steady-now quiet exact
     after-steady (Err stop) quiet exact = tt
-
--- ---- no statement was added
-
-no-result : (n i : ℕ) → is_some (get_or (replicate n None) i None) ≡ true → ⊥
-no-result zero i e = cc
-no-result (suc n) zero e = cc
-no-result (suc n) (suc i) e = no-result n i e
-
-pub empty-steady : (e : PlannedWorld) (w : World) (parts n : ℕ) → e ≡ record { world = w; planned = empty_plan parts n } → IsSteady e
-empty-steady e w parts n is = subst IsSteady (sym is) (record {
-  quiet = λ b here below. absurd (omega (arith, below));
-  clean = λ s added. absurd (no-result n (s - 1) added.result);
-})

@@ -1,5 +1,5 @@
 -- Targets of a phase, and the stops that are found in their blocks.
-use Rattle.std.proofs.Common.{◌≡◌, ℕ, zero, suc, ◌+◌, ◌-◌, ◌<◌, ◌≤◌, ◌&&◌, ◌==◌, Bool, true, false, List, [], ◌∷◌, ◌++◌, drop, take, get_or, length, map, Option, Some, None, is_some, option_map, refl, sym, ap, ap₂, ◌∙◌, subst, append_assoc, arith, add-one, drop-cons}
+use Rattle.std.proofs.Common.{◌≡◌, ℕ, zero, suc, ◌+◌, ◌-◌, ◌<◌, ◌≤◌, ◌&&◌, ◌==◌, Bool, true, false, List, [], ◌∷◌, ◌++◌, drop, take, get_or, length, map, Option, Some, None, Result, Ok, Err, IfOk, is_some, option_map, refl, sym, ap, ap₂, ◌∙◌, subst, append_assoc, arith, add-one, drop-cons}
 use Rattle.std.specs.Prelude.{All}
 use Rattle.std.specs.List.{AllByRecursion, flat_map, list_all, range_with_len}
 use Rattle.std.specs.Map.{lookup}
@@ -117,3 +117,23 @@ targets-flat items w [] = refl
 targets-flat items w (v ∷ vs) =
     ap (λ zs. targets_of w (items v) ++ zs) (targets-flat items w vs)
     ∙ sym (flat_map-append (λ n. blocks_at n (range_with_len 0 w.parts)) (items v) (flat_map (λ ns. ns) (map items vs)))
+
+-- all phases were gone over
+pub blocks-all : {V : Type 0} (vs us : List V) (items : V → List NodeId) (w : World) (i : ℕ) (bs : List BlockId) (nss : List (List NodeId)) → take i vs ≡ vs → vs ≡ us
+    → map items us ≡ nss → bs ≡ flat_map (λ v. targets_of w (items v)) (take i vs) → bs ≡ targets_of w (flat_map (λ ns. ns) nss)
+blocks-all vs us items w i bs nss whole same are so_far =
+    so_far ∙ ap (flat_map (λ v. targets_of w (items v))) (whole ∙ same) ∙ targets-flat items w us ∙ ap (λ xss. targets_of w (flat_map (λ ns. ns) xss)) are
+
+-- the stop that the code found in a held block
+pub block-stop : {E : Type 0} (r : Result (Option BlockStop) E) (e : PlannedWorld) (c : State Block) (b : BlockId) (v u : Block) → HoldsWorkOf e c → v ≡ u → Some u ≡ held_value c.held b
+    → IfOk r (λ stop. stop ≡ stop_in (shown v)) → IfOk r (λ stop. stop ≡ stop_of e.world e.planned b)
+block-stop (Ok stop) e c b v u contents same held is = is ∙ ap (λ t. stop_in (shown t)) same ∙ found-stop e c b u contents held
+block-stop (Err err) e c b v u contents same held is = tt
+
+-- the first of some nodes, and the others
+pub first-held : (f : BlockId → Bool) (w : World) (ns : List NodeId) (n : NodeId) (rest : List NodeId) → ns ≡ n ∷ rest → list_all f (targets_of w ns) ≡ true
+    → list_all f (blocks_at n (range_with_len 0 w.parts)) ≡ true
+first-held f w ns n rest split all = all-left f (blocks_at n (range_with_len 0 w.parts)) (targets_of w rest) (ap (λ ms. list_all f (targets_of w ms)) (sym split) ∙ all)
+
+pub rest-held : (f : BlockId → Bool) (w : World) (ns : List NodeId) (n : NodeId) (rest : List NodeId) → ns ≡ n ∷ rest → list_all f (targets_of w ns) ≡ true → list_all f (targets_of w rest) ≡ true
+rest-held f w ns n rest split all = all-right f (blocks_at n (range_with_len 0 w.parts)) (targets_of w rest) (ap (λ ms. list_all f (targets_of w ms)) (sym split) ∙ all)

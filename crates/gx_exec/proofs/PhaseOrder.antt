@@ -120,7 +120,7 @@ module _ (e : PlannedWorld) (setting : IsSetting e.world e.planned) (s : ℕ) (m
   pub nodes-after : length (with_number e.world.script e.planned s).lineage.nodes ≡ length e.planned.lineage.nodes + length (own_kinds (statement_of e.world.script s))
   nodes-after =
       let long : length q.recipes ≡ length p.recipes + length (own_recipes s st) = ap length recipes-after ∙ length-append p.recipes (own_recipes s st) in
-      let own : length (own_recipes s st) ≡ length (own_kinds st) = length-map (λ k. recipe_of k s) (own_kinds st) in
+      let own : length (own_recipes s st) ≡ length (own_kinds st) = length-map (own_kinds st) (λ k. recipe_of k s) in
       omega (arith, plan.recipes, setting.plan.recipes, long, own)
 
   node-of_result : (k : Kind) → node_of q (recipe_of k s) ≡ option_or (own_node (length p.lineage.nodes) k (own_kinds st)) (inherited_node p k (inherits k st))

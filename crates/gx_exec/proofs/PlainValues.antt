@@ -1,5 +1,6 @@
 -- A fault over values with places is the fault over values without.
 use Rattle.std.proofs.Common.{◌≡◌, ℕ, zero, suc, ◌+◌, ◌-◌, List, [], ◌∷◌, ◌++◌, map, Option, Some, None, option_map, unwrap_or, refl, sym, ap, ap₂, ◌∙◌}
+use Rattle.std.specs.Prelude.{⊤}
 use Rattle.std.specs.List.{flat_map, slice_get}
 use Rattle.gx_index.specs.Ids.{id_cmp}
 use Rattle.gx_rows.specs.Order.{Edge}

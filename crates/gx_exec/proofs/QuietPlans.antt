@@ -1,6 +1,7 @@
 -- Plans of which no block is stopped.
 use Rattle.std.proofs.Common.{◌≡◌, ℕ, zero, suc, ◌+◌, ◌<◌, ◌≤◌, Bool, true, List, [], ◌∷◌, ◌⊎◌, inl, inr, Option, Some, None, is_some, get_or, length, replicate, refl, sym, ap, ◌∙◌, subst, arith}
 use Rattle.std.specs.List.{AllByRecursion, range_with_len}
+use Rattle.gx_lineage.specs.Lineage.{IsBlock}
 use Rattle.gx_lineage.specs.declared.block_id.BlockId.{BlockId}
 use Rattle.gx_lineage.specs.declared.node_id.NodeId.{NodeId}
 use Rattle.gx_plan.specs.PlanInvariant.{IsFrontOf}
@@ -32,7 +33,7 @@ stop_in-content w p b =
 -- blocks that are not stopped are not stopped in a larger plan
 pub quiet-kept : (w : World) (p q : Planned) → IsSetting w p → IsFrontOf p q → AreQuietBelow w p (length p.lineage.nodes) → AreQuietBelow w q (length p.lineage.nodes)
 quiet-kept w p q setting front quiet b here below =
-    let before = record { node = below; part = subst (λ n. b.part < n) front.parts here.part } in
+    let before : IsBlock p.lineage b = record { node = below; part = subst (λ n. b.part < n) front.parts here.part } in
     sym (stop_in-content w q b) ∙ ap stop_in (contents-kept w p q setting front b before) ∙ stop_in-content w p b ∙ quiet b before below
 
 pub quiet-less : (w : World) (p : Planned) (m n : ℕ) → m ≤ n → AreQuietBelow w p n → AreQuietBelow w p m
@@ -48,7 +49,7 @@ pub quiet-fault : (w : World) (p : Planned) → IsSetting w p → AreQuietBelow 
 quiet-fault w p setting quiet n within =
     sym (stops-are_faults w p setting n within (quiet-less w p n.0 (length p.lineage.nodes) (omega (arith, within)) quiet))
     ∙ least-none (λ j. stop_of w p (record { node = n; part = j })) 0 w.parts
-    (λ j below. quiet (record { node = n; part = j }) (record { node = within; part = subst (λ k. j < k) (sym setting.parts) below }) within)
+    (λ j below. quiet (record { node = n; part = j }) (record { node = within; part = subst (λ k. j < k) (sym setting.parts) (omega (arith, below)) }) within)
 
 -- ---- phases in order
 
