@@ -136,15 +136,18 @@ module _ (w : World) (a : ℕ) (low : 1 ≤ a) (p q o : Planned) (x y z : Point)
       course-more w (answered w p a) (forced_all w p (stmts_used w.script a)) (λ r. forced w r a) q x x y
       (front-forced w (forced_all w p (stmts_used w.script a)).planned a low) (course-starts w (answered w p a) x) first
 
-  pub action-ends : EndsAs w (forced w q a) None o y z → EndsAs w (answered w p a) None o x z
-  action-ends ends = course-last w (answered w p a) (forced w q a) None o x y z on-action ends
+  module _ (v : World) (same : v ≡ w) where
+    pub action-ends : EndsAs v (forced v q a) None o y z → EndsAs w (answered w p a) None o x z
+    action-ends ends =
+        course-last w (answered w p a) (forced w q a) None o x y z on-action (subst (λ u. EndsAs u (forced u q a) None o y z) same ends)
 
-  pub action-stops : (stop : RunStop) → StopsAs stop w (forced w q a) o y z → StopsAs stop w (answered w p a) o x z
-  action-stops stop stops = course-last_stops w (answered w p a) (forced w q a) stop o x y z on-action stops
+    -- it may also be that it was not gone through to its end
+    pub action-passes : EndsAs v (forced v q a) None o y z → PassesAs w (answered w p a) x z
+    action-passes ends r front = passes-all (net_in w r) (answered w p a).commands x z ((action-ends ends).run r front)
 
--- a course that was gone through is one that was maybe not gone through to its end
-pub ends-pass : (w : World) (c : Course) (f : Option Fault) (left : Planned) (x y : Point) → EndsAs w c f left x y → PassesAs w c x y
-ends-pass w c f left x y ends q front = passes-all (net_in w q) c.commands x y (ends.run q front)
+    pub action-stops : (stop : RunStop) → StopsAs stop v (forced v q a) o y z → StopsAs stop w (answered w p a) o x z
+    action-stops stop stops =
+        course-last_stops w (answered w p a) (forced w q a) stop o x y z on-action (subst (λ u. StopsAs stop u (forced u q a) o y z) same stops)
 
 -- a stop before the action
 pub needs-stop : (w : World) (a : ℕ) (low : 1 ≤ a) (p left : Planned) (stop : RunStop) (x y : Point) → StopsAs stop w (forced_all w p (stmts_used w.script a)) left x y → StopsAs stop w (answered w p a) left x y

@@ -8,5 +8,6 @@ pub mod JudgedPhases
 pub mod LargerPlans
 pub mod NeededStatements
 pub mod PhaseOrder
+pub mod PhaseSteps
 pub mod PlainValues
 pub mod QuietPlans
