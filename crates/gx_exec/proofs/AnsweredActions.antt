@@ -155,10 +155,18 @@ needs-stop w a low p left stop x y stops =
     course-stops w (answered w p a) (forced_all w p (stmts_used w.script a)) (λ r. forced w r a) stop left x x y
     (front-forced w (forced_all w p (stmts_used w.script a)).planned a low) (course-starts w (answered w p a) x) stops
 
+not_true : false ≡ true → ⊥
+not_true e = cc
+
 -- an action has no fault of its own
 action-clean : {A B : Type 0} (checked : List CheckedStmt) (gs : List (Graph A)) (hs : List (Graph B)) (s : ℕ) (st : TypedStmt) → IsSome (answer_of_stmt checked gs st) → fault_of_stmt hs s st ≡ None
-action-clean checked gs hs s (stmts.MapVertices g sets) is = cc
-action-clean checked gs hs s _ is = refl
+action-clean checked gs hs s (stmts.PrintVertices g) is = refl
+action-clean checked gs hs s (stmts.PrintEdges g) is = refl
+action-clean checked gs hs s (stmts.PrintTable t) is = refl
+action-clean checked gs hs s (stmts.CountVertices g) is = refl
+action-clean checked gs hs s (stmts.CountEdges g) is = refl
+action-clean checked gs hs s (stmts.CountTable t) is = refl
+action-clean checked gs hs s _ is = absurd (not_true is)
 
 clean-at : (l : Loaded) (s : ℕ) (o : Option TypedStmt) → IsSome (option_and_then (answer_of_stmt l.checked (plain_values l)) o) → option_and_then (fault_of_stmt (plain_values l) s) o ≡ None
 clean-at l s None is = cc
@@ -172,9 +180,6 @@ action-exact A B l a (run_stop.Fault f) is exact = let contrary : None ≡ Some 
 action-exact A B l a run_stop.NoMemory is exact = tt
 
 -- ---- its blocks are held
-
-not_true : false ≡ true → ⊥
-not_true e = cc
 
 demands-one : {A : Type 0} (checked : List CheckedStmt) (gs : List (Graph A)) (s : ℕ) (st : TypedStmt) → IsSome (answer_of_stmt checked gs st) → (r : Recipe) × (phase_recipes s st ≡ r ∷ [])
 demands-one checked gs s (stmts.PrintVertices g) is = (recipe_of kind.Vertices g, refl)

@@ -31,7 +31,7 @@ use Rattle.gx_exec.specs.Engines.{AreQuiet, IsSteady, MayForce, loaded_of}
 use Rattle.gx_exec.proofs.CourseRuns.{front-same, joined-front}
 use Rattle.gx_exec.proofs.FreshStatements.{fresh-result}
 use Rattle.gx_exec.proofs.PhaseOrder.{demanded-added, demanded-earlier, front, nodes_from, one_node, phases-are, recipes-after}
-use Rattle.gx_exec.proofs.PlainValues.{plain-fault}
+use Rattle.gx_exec.proofs.ModelFaults.{model-fault}
 use Rattle.gx_exec.proofs.QuietPlans.{quiet-fault}
 
 -- ---- the plan of a course
@@ -108,24 +108,14 @@ earlier-faults w q s m (ns ∷ nss) none below =
 
 -- ---- the model's fault
 
-fault-again : (s : ℕ) (f : Option (KeyFault Vid)) → option_or (option_map (fault_of_stop s) (option_map stop_on_vertex f)) None ≡ option_map (fault_on_vertex s) f
-fault-again s None = refl
-fault-again s (Some f) = refl
-
--- the first fault of a statement's own nodes is its fault
-kinds-are_of_model : (w : World) (s : ℕ) (st : TypedStmt) → first_given (λ k. option_map (fault_of_stop s) (fault_kind k (value_in w) st)) (own_kinds st) ≡ fault_of_stmt (placed_values w) s st
-kinds-are_of_model w s (stmts.MapVertices g sets) = fault-again s (least_fault id_cmp (faults_on_vertices (vertex_row_result sets) (value_in w g).vertices))
-kinds-are_of_model w s _ = refl
-
 pub found-statement : (script : List CheckedStmt) (k : ℕ) → k < length script → slice_get (map (λ c. c.stmt) script) k ≡ Some (unwrap_or (option_map (λ c. c.stmt) (slice_get script k)) (stmts.CountTable 0))
 found-statement [] k within = absurd (omega (arith, within))
 found-statement (c ∷ script) zero within = refl
 found-statement (c ∷ script) (suc k) within = found-statement script k (omega (arith, within))
 
-pub number-fault : (w : World) (s : ℕ) → 1 ≤ s → s ≤ length w.script → fault_of_number (loaded_of w) s ≡ fault_of_stmt (placed_values w) s (statement_of w.script s)
+number-fault : (w : World) (s : ℕ) → 1 ≤ s → s ≤ length w.script → fault_of_number (loaded_of w) s ≡ fault_of_stmt (plain_values (loaded_of w)) s (statement_of w.script s)
 number-fault w s low high =
     ap (option_and_then (fault_of_stmt (plain_values (loaded_of w)) s)) (found-statement w.script (s - 1) (omega (arith, low, high)))
-    ∙ sym (plain-fault w s (statement_of w.script s))
 
 module _ (e : PlannedWorld) (setting : IsSetting e.world e.planned) (s : ℕ) (may : MayForce e s) where
   abbrev w : World
@@ -150,7 +140,7 @@ module _ (e : PlannedWorld) (setting : IsSetting e.world e.planned) (s : ℕ) (m
       ∙ first_given-append (fault_of_phase w q s) own demanded
       ∙ ap₂ option_or
       (own-faults w q s p.recipes (own_kinds st) (length p.lineage.nodes) (recipes-after e setting s may fresh) (sym setting.plan.recipes)
-      ∙ kinds-are_of_model w s st ∙ sym (number-fault w s may.from_one may.within))
+      ∙ model-fault w s st ∙ sym (number-fault w s may.from_one may.within))
       (earlier-faults w q s (length p.lineage.nodes) demanded
       (λ n below. ap (fault_in w) (kept-recipe n below) ∙ quiet-fault w p setting quiet n below)
       (demanded-earlier e setting s may fresh (demanded_by st) (demanded-added e setting s may fresh)))

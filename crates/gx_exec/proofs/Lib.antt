@@ -6,8 +6,8 @@ pub mod FreshStatements
 pub mod HeldStops
 pub mod JudgedPhases
 pub mod LargerPlans
+pub mod ModelFaults
 pub mod NeededStatements
 pub mod PhaseOrder
 pub mod PhaseSteps
-pub mod PlainValues
 pub mod QuietPlans

@@ -1,16 +1,21 @@
--- A fault over values with places is the fault over values without.
+-- The first fault of a statement's own nodes is the model's fault of the statement.
 use Rattle.std.proofs.Common.{◌≡◌, ℕ, zero, suc, ◌+◌, ◌-◌, List, [], ◌∷◌, ◌++◌, map, Option, Some, None, option_map, unwrap_or, refl, sym, ap, ap₂, ◌∙◌}
 use Rattle.std.specs.Prelude.{⊤}
 use Rattle.std.specs.List.{flat_map, slice_get}
+use Rattle.std.specs.Option.{option_or}
 use Rattle.gx_index.specs.Ids.{id_cmp}
 use Rattle.gx_rows.specs.Order.{Edge}
 use Rattle.gx_model.specs.Graphs.{Graph, Vertex, ends_in_edges, placed_from, plain_edges, table_of_rows}
 use Rattle.gx_model.specs.ScriptMeaning.{Loaded, plain_values}
-use Rattle.gx_model.specs.StmtFaults.{fault_of_stmt, fault_on_vertex, faults_on_vertices, least_fault}
+use Rattle.gx_model.specs.StmtFaults.{KeyFault, fault_of_stmt, fault_on_vertex, faults_on_vertices, least_fault}
 use Rattle.gx_model.specs.Values.{LoadedRows, mapped_vertices, rows_loaded, value_named, value_of_stmt, values_of_stmts, vertex_row_result}
 use Rattle.gx_types_stmts.specs.declared.typed_stmt.TypedStmt.{TypedStmt}
 use Rattle.gx_types_stmts.specs.declared.typed_stmt.TypedStmt.TheVariants as stmts
-use Rattle.gx_exec_contents.specs.Worlds.{World, place_in, placed_values, stmts_of}
+use Rattle.gx_plan.specs.StmtNodes.{own_kinds}
+use Rattle.gx_rows.specs.declared.vid.Vid.{Vid}
+use Rattle.gx_exec_contents.specs.PartContents.{fault_kind, first_given, stop_on_vertex}
+use Rattle.gx_exec_contents.specs.PhaseFaults.{fault_of_stop}
+use Rattle.gx_exec_contents.specs.Worlds.{World, place_in, placed_values, stmts_of, value_in}
 use Rattle.gx_exec.specs.Engines.{loaded_of}
 
 -- the same vertices, and the same edges wherever they are
@@ -75,6 +80,21 @@ alike-fault gs hs s (stmts.MapVertices g sets) all =
     ap (λ vs. option_map (fault_on_vertex s) (least_fault id_cmp (faults_on_vertices (vertex_row_result sets) vs))) (alike-at gs hs (g - 1) all).vertices
 alike-fault gs hs s _ all = refl
 
-pub plain-fault : (w : World) (s : ℕ) (st : TypedStmt) → fault_of_stmt (placed_values w) s st ≡ fault_of_stmt (plain_values (loaded_of w)) s st
+plain-fault : (w : World) (s : ℕ) (st : TypedStmt) → fault_of_stmt (placed_values w) s st ≡ fault_of_stmt (plain_values (loaded_of w)) s st
 unfolding placed_values
 plain-fault w s st = alike-fault (placed_values w) (plain_values (loaded_of w)) s st (alike-script (place_in w) (λ n e. tt) w.loads (stmts_of w))
+
+-- ---- the own nodes of a statement
+
+fault-again : (s : ℕ) (f : Option (KeyFault Vid)) → option_or (option_map (fault_of_stop s) (option_map stop_on_vertex f)) None ≡ option_map (fault_on_vertex s) f
+fault-again s None = refl
+fault-again s (Some f) = refl
+
+kinds-are_of_model : (w : World) (s : ℕ) (st : TypedStmt) → first_given (λ k. option_map (fault_of_stop s) (fault_kind k (value_in w) st)) (own_kinds st) ≡ fault_of_stmt (placed_values w) s st
+kinds-are_of_model w s (stmts.MapVertices g sets) = fault-again s (least_fault id_cmp (faults_on_vertices (vertex_row_result sets) (value_in w g).vertices))
+kinds-are_of_model w s _ = refl
+
+-- the first fault of a statement's own nodes is its fault, over values without places
+pub model-fault : (w : World) (s : ℕ) (st : TypedStmt)
+    → first_given (λ k. option_map (fault_of_stop s) (fault_kind k (value_in w) st)) (own_kinds st) ≡ fault_of_stmt (plain_values (loaded_of w)) s st
+model-fault w s st = kinds-are_of_model w s st ∙ plain-fault w s st
