@@ -1,11 +1,11 @@
 -- Statements that are forced in order, and the action after them.
-use Rattle.std.proofs.Common.{◌≡◌, ◌≢◌, ℕ, ◌+◌, ◌-◌, ◌<◌, ◌≤◌, Bool, true, false, List, [], ◌∷◌, ◌++◌, length, map, Option, Some, None, IsSome, ◌⊎◌, inl, inr, Result, Ok, Err, IfErr, OnOk, refl, sym, ap, ◌∙◌, subst, arith}
+use Rattle.std.proofs.Common.{◌≡◌, ◌≢◌, ℕ, ◌-◌, ◌≤◌, true, false, List, [], ◌∷◌, length, map, Option, Some, None, IsSome, inl, Err, refl, sym, ap, ◌∙◌, subst, arith}
 use Rattle.std.specs.List.{AllByRecursion, flat_map, slice_get}
 use Rattle.std.specs.Option.{option_and_then, option_to_list}
 use Rattle.std.proofs.lemmas.List.{append-nil}
 use Rattle.gx_cluster.specs.States.{State}
 use Rattle.gx_cluster_state.specs.Nets.{Net}
-use Rattle.gx_cluster_state.specs.Runs.{Command, Demand, Passes, Point, Run}
+use Rattle.gx_cluster_state.specs.Runs.{Point, Run}
 use Rattle.gx_cluster_state.specs.Shapes.{all_held}
 use Rattle.gx_lineage.specs.declared.node_id.NodeId.{NodeId}
 use Rattle.gx_model.specs.ActionAnswers.{answer_of_stmt}
@@ -32,7 +32,7 @@ use Rattle.gx_exec.specs.declared.run_stop.RunStop.TheVariants as run_stop
 use Rattle.gx_exec.specs.Courses.{Course, EndsAs, PassesAs, StopsAs, answered, fault_of_phase, forced, forced_all, joined, phase, phases, still, targets_of, was_added}
 use Rattle.gx_exec.specs.Engines.{ForcesTo, HoldsWorkOf, IsSteady, MayForce, action_answer, loaded_of, point_of, with_stmt}
 use Rattle.gx_exec.proofs.CourseFaults.{found-statement, front-forced, front-forced_all}
-use Rattle.gx_exec.proofs.CourseRuns.{OnCourse, course-breaks, course-ends, course-last, course-last_stops, course-more, course-starts, course-stops, course-waits, front-same, passes-all}
+use Rattle.gx_exec.proofs.CourseRuns.{OnCourse, course-ends, course-last, course-last_stops, course-more, course-starts, course-stops, front-same, passes-all}
 use Rattle.gx_exec.proofs.ForcedStatements.{forced-phases}
 use Rattle.gx_exec.proofs.NeededStatements.{AreForcedTo, AreForcedTo-more, AreForcedTo-none, last-may, next-may, used-low, used-range}
 

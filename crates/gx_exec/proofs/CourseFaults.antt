@@ -1,36 +1,32 @@
 -- The fault at which the course of a statement ends is that of the model.
-use Rattle.std.proofs.Common.{◌≡◌, ℕ, zero, suc, ◌+◌, ◌-◌, ◌<◌, ◌≤◌, Bool, true, false, if◌then◌else◌, List, [], ◌∷◌, ◌++◌, inl, inr, Option, Some, None, Result, Ok, Err, IfErr, OnOk, get_or, length, map, unwrap_or, option_map, refl, sym, ap, ap₂, ◌∙◌, subst, append_assoc, arith}
+use Rattle.std.proofs.Common.{◌≡◌, ℕ, zero, suc, ◌+◌, ◌-◌, ◌<◌, ◌≤◌, Bool, true, false, if◌then◌else◌, List, [], ◌∷◌, ◌++◌, Option, Some, None, length, map, unwrap_or, option_map, refl, sym, ap, ap₂, ◌∙◌, subst, append_assoc, arith}
 use Rattle.std.proofs.lemmas.List.{get_or_append_left, length-append}
 use Rattle.std.proofs.Math.Seq.{get_or-append_seam}
-use Rattle.std.proofs.lemmas.Option.{slice_get-map}
-use Rattle.std.specs.List.{AllByRecursion, range_with_len, slice_get}
+use Rattle.std.specs.List.{AllByRecursion, slice_get}
 use Rattle.std.specs.Option.{option_and_then, option_or, option_to_list}
 use Rattle.gx_lineage.specs.declared.node_id.NodeId.{NodeId}
-use Rattle.gx_model.specs.ScriptMeaning.{fault_of_number, plain_values, stmts_in}
-use Rattle.gx_model.specs.StmtFaults.{KeyFault, fault_of_stmt, fault_on_vertex, faults_on_vertices, least_fault}
-use Rattle.gx_model.specs.Values.{vertex_row_result}
-use Rattle.gx_index.specs.Ids.{id_cmp}
+use Rattle.gx_model.specs.ScriptMeaning.{fault_of_number, plain_values}
+use Rattle.gx_model.specs.StmtFaults.{fault_of_stmt}
 use Rattle.gx_plan.specs.PlanInvariant.{IsFrontOf}
-use Rattle.gx_plan.specs.Plans.{IsAdded, Planned, node_of, phases_of, recipe_at, with_number}
+use Rattle.gx_plan.specs.Plans.{Planned, node_of, phases_of, recipe_at, with_number}
 use Rattle.gx_plan.specs.Recipes.{recipe_of}
 use Rattle.gx_plan.specs.StmtNodes.{demanded_by, own_kinds, own_recipes, statement_of}
 use Rattle.gx_plan.specs.declared.kind.Kind.{Kind}
 use Rattle.gx_plan.specs.declared.recipe.Recipe.{Recipe}
 use Rattle.gx_plan.proofs.OneStatement.{added-front}
 use Rattle.gx_rows.specs.declared.fault.Fault.{Fault}
-use Rattle.gx_rows.specs.declared.vid.Vid.{Vid}
 use Rattle.gx_types_stmts.specs.declared.checked_stmt.CheckedStmt.{CheckedStmt}
 use Rattle.gx_types_stmts.specs.declared.typed_stmt.TypedStmt.{TypedStmt}
 use Rattle.gx_types_stmts.specs.declared.typed_stmt.TypedStmt.TheVariants as stmts
-use Rattle.gx_exec_contents.specs.PartContents.{fault_kind, first_given, stop_on_vertex}
+use Rattle.gx_exec_contents.specs.PartContents.{fault_kind, first_given}
 use Rattle.gx_exec_contents.specs.PhaseFaults.{fault_in, fault_of_stop}
-use Rattle.gx_exec_contents.specs.Worlds.{IsSetting, World, placed_values, value_in}
+use Rattle.gx_exec_contents.specs.Worlds.{IsSetting, World, value_in}
 use Rattle.gx_exec_work.specs.Works.{PlannedWorld}
 use Rattle.gx_exec.specs.Courses.{Course, fault_of_phase, forced, forced_all, joined, phase, phases, still, was_added}
 use Rattle.gx_exec.specs.Engines.{AreQuiet, IsSteady, MayForce, loaded_of}
 use Rattle.gx_exec.proofs.CourseRuns.{front-same, joined-front}
 use Rattle.gx_exec.proofs.FreshStatements.{fresh-result}
-use Rattle.gx_exec.proofs.PhaseOrder.{demanded-added, demanded-earlier, front, nodes_from, one_node, phases-are, recipes-after}
+use Rattle.gx_exec.proofs.PhaseOrder.{demanded-added, demanded-earlier, front, nodes_from, phases-are, recipes-after}
 use Rattle.gx_exec.proofs.ModelFaults.{model-fault}
 use Rattle.gx_exec.proofs.QuietPlans.{quiet-fault}
 

@@ -1,22 +1,19 @@
 -- One statement: it was added before, or it is added and its phases are gone through.
-use Rattle.std.proofs.Common.{◌≡◌, ◌≢◌, ℕ, ◌<◌, ◌≤◌, ◌+◌, ◌-◌, Bool, true, false, cond, List, [], ◌∷◌, drop, map, get_or, is_some, length, replicate, Option, Some, None, Result, Ok, Err, IfErr, OnOk, inl, inr, refl, sym, ap, ◌∙◌, subst, arith}
+use Rattle.std.proofs.Common.{◌≡◌, ◌≢◌, ℕ, ◌≤◌, Bool, true, false, cond, List, length, None, Result, Ok, Err, IfErr, OnOk, inl, inr, refl, sym, ap, ◌∙◌, subst}
 use Rattle.gx_cluster.specs.States.{State}
 use Rattle.gx_cluster_state.specs.Runs.{Point}
 use Rattle.gx_lineage.specs.declared.node_id.NodeId.{NodeId}
 use Rattle.gx_model.specs.ScriptMeaning.{fault_of_number}
 use Rattle.gx_plan.specs.PlanInvariant.{IsFrontOf}
-use Rattle.gx_plan.specs.Plans.{IsAdded, Planned, empty_plan, phases_of, with_number}
-use Rattle.gx_rows.specs.declared.fault.Fault.{Fault}
-use Rattle.gx_exec_contents.specs.PhaseFaults.{AreQuietBelow}
+use Rattle.gx_plan.specs.Plans.{IsAdded, Planned, phases_of, with_number}
 use Rattle.gx_exec_contents.specs.Worlds.{IsSetting, World}
 use Rattle.gx_exec_work.specs.Works.{PlannedWorld}
 use Rattle.gx_exec_work.specs.declared.block.Block.{Block}
 use Rattle.gx_exec.specs.declared.run_stop.RunStop.{RunStop}
-use Rattle.gx_exec.specs.declared.run_stop.RunStop.TheVariants as run_stop
-use Rattle.gx_exec.specs.Courses.{Course, EndsAs, PassesAs, StopsAs, forced, phases, still, was_added}
+use Rattle.gx_exec.specs.Courses.{Course, EndsAs, StopsAs, forced, phases, still, was_added}
 use Rattle.gx_exec.specs.Engines.{AreQuiet, ForcesTo, HoldsWorkOf, IsSteady, MayForce, loaded_of, point_of, with_stmt}
 use Rattle.gx_exec.specs.Phases.{AreNext}
-use Rattle.gx_exec.proofs.CourseRuns.{OnCourse, front-same}
+use Rattle.gx_exec.proofs.CourseRuns.{OnCourse}
 use Rattle.gx_exec.proofs.FreshStatements.{added-cases, added-here, others-kept}
 use Rattle.gx_exec.proofs.LargerPlans.{work-kept}
 use Rattle.gx_exec.proofs.PhaseOrder.{front, phases-next}

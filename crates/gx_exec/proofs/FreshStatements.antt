@@ -1,12 +1,12 @@
 -- A plan with one more statement: what was added.
-use Rattle.std.proofs.Common.{◌≡◌, ◌≢◌, ℕ, ◌≤◌, ◌-◌, Bool, true, false, List, Option, Some, None, ◌⊎◌, inl, inr, get_or, is_some, length, set, sym, ap, subst, ◌∙◌, refl, arith}
+use Rattle.std.proofs.Common.{◌≡◌, ◌≢◌, ℕ, ◌≤◌, ◌-◌, true, false, List, Option, Some, None, ◌⊎◌, inl, inr, get_or, is_some, length, sym, ap, ◌∙◌, refl, arith}
 use Rattle.std.proofs.lemmas.Bool.Decides.{eqb_tells}
 use Rattle.std.proofs.lemmas.List.{get_or-set_other, get_or-set_same, length-set}
-use Rattle.gx_plan.specs.PlanInvariant.{IsFrontOf, IsPlan}
+use Rattle.gx_plan.specs.PlanInvariant.{IsPlan}
 use Rattle.gx_plan.specs.Plans.{IsAdded, Planned, result_of, with_number, with_recipes}
 use Rattle.gx_plan.specs.StmtNodes.{own_recipes, statement_of}
 use Rattle.gx_plan.specs.declared.result_nodes.ResultNodes.{ResultNodes}
-use Rattle.gx_plan.proofs.OneStatement.{added-front, results-kept}
+use Rattle.gx_plan.proofs.OneStatement.{results-kept}
 use Rattle.gx_types_stmts.specs.declared.checked_stmt.CheckedStmt.{CheckedStmt}
 use Rattle.gx_exec.specs.Courses.{was_added}
 

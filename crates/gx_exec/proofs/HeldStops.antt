@@ -3,7 +3,6 @@ use Rattle.std.proofs.Common.{◌≡◌, ℕ, zero, suc, ◌+◌, ◌-◌, ◌<�
 use Rattle.std.specs.Prelude.{All}
 use Rattle.std.specs.List.{AllByRecursion, flat_map, list_all, range_with_len}
 use Rattle.std.specs.Map.{lookup}
-use Rattle.std.specs.Option.{option_or}
 use Rattle.std.proofs.lemmas.Bool.Decides.{nat_tests}
 use Rattle.std.proofs.lemmas.List.Elements.{All-from_recursion}
 use Rattle.gx_cluster.specs.States.{State, held_value, shape}
@@ -15,7 +14,7 @@ use Rattle.gx_lineage.specs.Lineage.{IsBlock, blocks_at}
 use Rattle.gx_lineage.specs.declared.block_id.BlockId.{BlockId}
 use Rattle.gx_lineage.specs.declared.node_id.NodeId.{NodeId}
 use Rattle.gx_exec_contents.specs.BlockContents.{stop_of}
-use Rattle.gx_exec_contents.specs.PartContents.{BlockStop, first_given, stop_in}
+use Rattle.gx_exec_contents.specs.PartContents.{BlockStop, stop_in}
 use Rattle.gx_exec_contents.specs.PhaseFaults.{least_over, lesser_of}
 use Rattle.gx_exec_contents.specs.Worlds.{IsSetting, World}
 use Rattle.gx_exec_work.specs.Works.{PlannedWorld, shown}

@@ -1,5 +1,5 @@
 -- How a phase ends: after its demand it is judged.
-use Rattle.std.proofs.Common.{◌≡◌, ℕ, List, [], ◌∷◌, Option, Some, None, Result, Ok, Err, IfErr, OnOk, true, option_map, inl, inr, refl, sym, ap, ap₂, ◌∙◌, subst}
+use Rattle.std.proofs.Common.{◌≡◌, ℕ, List, [], ◌∷◌, Option, Some, None, Result, Ok, Err, IfErr, OnOk, true, option_map, inl, inr, refl, sym, ap, ap₂, ◌∙◌}
 use Rattle.std.specs.List.{AllByRecursion}
 use Rattle.std.specs.Option.{option_or}
 use Rattle.gx_cluster_state.specs.Runs.{Point}
@@ -7,14 +7,14 @@ use Rattle.gx_cluster_state.specs.Shapes.{all_held}
 use Rattle.gx_lineage.specs.declared.node_id.NodeId.{NodeId}
 use Rattle.gx_plan.specs.Plans.{Planned, recipe_at}
 use Rattle.gx_rows.specs.declared.fault.Fault.{Fault}
-use Rattle.gx_exec_contents.specs.PartContents.{BlockStop, first_given}
+use Rattle.gx_exec_contents.specs.PartContents.{first_given}
 use Rattle.gx_exec_contents.specs.PhaseFaults.{fault_in, fault_of_stop, least_stop}
 use Rattle.gx_exec_contents.specs.Worlds.{IsSetting, World}
 use Rattle.gx_exec_contents.proofs.StopsOfNodes.{stops-are_faults}
 use Rattle.gx_exec_work.specs.Works.{PlannedWorld}
 use Rattle.gx_exec.specs.declared.run_stop.RunStop.{RunStop}
 use Rattle.gx_exec.specs.declared.run_stop.RunStop.TheVariants as run_stop
-use Rattle.gx_exec.specs.Courses.{Course, EndsAs, PassesAs, StopsAs, fault_of_phase, phase, targets_of}
+use Rattle.gx_exec.specs.Courses.{Course, EndsAs, PassesAs, StopsAs, phase, targets_of}
 use Rattle.gx_exec.specs.Engines.{ForcesTo}
 use Rattle.gx_exec.specs.Phases.{AreUnstopped, HasDemanded, MayJudge}
 

@@ -1,14 +1,14 @@
 -- The first fault of a statement's own nodes is the model's fault of the statement.
 use Rattle.std.proofs.Common.{◌≡◌, ℕ, zero, suc, ◌+◌, ◌-◌, List, [], ◌∷◌, ◌++◌, map, Option, Some, None, option_map, unwrap_or, refl, sym, ap, ap₂, ◌∙◌}
 use Rattle.std.specs.Prelude.{⊤}
-use Rattle.std.specs.List.{flat_map, slice_get}
+use Rattle.std.specs.List.{slice_get}
 use Rattle.std.specs.Option.{option_or}
 use Rattle.gx_index.specs.Ids.{id_cmp}
 use Rattle.gx_rows.specs.Order.{Edge}
-use Rattle.gx_model.specs.Graphs.{Graph, Vertex, ends_in_edges, placed_from, plain_edges, table_of_rows}
-use Rattle.gx_model.specs.ScriptMeaning.{Loaded, plain_values}
+use Rattle.gx_model.specs.Graphs.{Graph, ends_in_edges, placed_from, plain_edges, table_of_rows}
+use Rattle.gx_model.specs.ScriptMeaning.{plain_values}
 use Rattle.gx_model.specs.StmtFaults.{KeyFault, fault_of_stmt, fault_on_vertex, faults_on_vertices, least_fault}
-use Rattle.gx_model.specs.Values.{LoadedRows, mapped_vertices, rows_loaded, value_named, value_of_stmt, values_of_stmts, vertex_row_result}
+use Rattle.gx_model.specs.Values.{LoadedRows, mapped_vertices, rows_loaded, value_of_stmt, values_of_stmts, vertex_row_result}
 use Rattle.gx_types_stmts.specs.declared.typed_stmt.TypedStmt.{TypedStmt}
 use Rattle.gx_types_stmts.specs.declared.typed_stmt.TypedStmt.TheVariants as stmts
 use Rattle.gx_plan.specs.StmtNodes.{own_kinds}

@@ -1,13 +1,13 @@
 -- The phases of a statement that was just added are in order.
-use Rattle.std.proofs.Common.{◌≡◌, ℕ, zero, suc, ◌+◌, ◌-◌, ◌<◌, ◌≤◌, Bool, true, false, List, [], ◌∷◌, ◌++◌, inl, inr, Option, Some, None, get_or, length, map, unwrap_or, refl, sym, ap, ap₂, ◌∙◌, subst, append_assoc, arith}
+use Rattle.std.proofs.Common.{◌≡◌, ℕ, zero, suc, ◌+◌, ◌<◌, ◌≤◌, Bool, true, false, List, [], ◌∷◌, ◌++◌, inl, inr, Option, Some, None, length, map, unwrap_or, refl, sym, ap, ◌∙◌, subst, arith}
 use Rattle.std.proofs.lemmas.List.{length-append, length-map}
 use Rattle.std.specs.List.{AllByRecursion, range_with_len}
 use Rattle.std.specs.Option.{option_or, option_to_list}
 use Rattle.gx_lineage.specs.declared.node_id.NodeId.{NodeId}
-use Rattle.gx_plan.specs.PlanInvariant.{HasNodeFor, IsFrontOf, IsNodeFor, IsPlan}
+use Rattle.gx_plan.specs.PlanInvariant.{IsFrontOf, IsNodeFor, IsPlan}
 use Rattle.gx_plan.specs.Plans.{IsAdded, Planned, inherited_node, no_nodes, node_in, node_of, own_node, phases_of, result_node, result_of, with_number}
 use Rattle.gx_plan.specs.Recipes.{recipe_of}
-use Rattle.gx_plan.specs.StmtNodes.{demanded_by, inherits, own_kinds, own_recipes, phase_recipes, statement_of}
+use Rattle.gx_plan.specs.StmtNodes.{demanded_by, inherits, own_kinds, own_recipes, statement_of}
 use Rattle.gx_plan.specs.declared.kind.Kind.{Kind}
 use Rattle.gx_plan.specs.declared.kind.Kind.TheVariants.{Vertices, Edges}
 use Rattle.gx_plan.specs.declared.recipe.Recipe.{Recipe}

@@ -1,17 +1,17 @@
 -- Plans of which no block is stopped.
-use Rattle.std.proofs.Common.{◌≡◌, ℕ, zero, suc, ◌+◌, ◌<◌, ◌≤◌, Bool, true, List, [], ◌∷◌, ◌⊎◌, inl, inr, Option, Some, None, is_some, get_or, length, replicate, refl, sym, ap, ◌∙◌, subst, arith}
+use Rattle.std.proofs.Common.{◌≡◌, ℕ, zero, suc, ◌+◌, ◌<◌, ◌≤◌, List, [], ◌∷◌, inl, inr, Option, Some, None, length, refl, sym, ap, ◌∙◌, subst, arith}
 use Rattle.std.specs.List.{AllByRecursion, range_with_len}
 use Rattle.gx_lineage.specs.Lineage.{IsBlock}
 use Rattle.gx_lineage.specs.declared.block_id.BlockId.{BlockId}
 use Rattle.gx_lineage.specs.declared.node_id.NodeId.{NodeId}
 use Rattle.gx_plan.specs.PlanInvariant.{IsFrontOf}
-use Rattle.gx_plan.specs.Plans.{Planned, empty_plan, recipe_at}
+use Rattle.gx_plan.specs.Plans.{Planned, recipe_at}
 use Rattle.gx_plan.specs.declared.kind.Kind.{Kind}
 use Rattle.gx_plan.specs.declared.kind.Kind.TheVariants as kind
 use Rattle.gx_model.specs.Graphs.{Graph}
 use Rattle.gx_exec_contents.specs.BlockContents.{content_of, recipe_of_block, stop_of}
 use Rattle.gx_exec_contents.specs.PartContents.{BlockStop, held_kind, stop_in, stop_or}
-use Rattle.gx_exec_contents.specs.PhaseFaults.{AreQuietBelow, fault_in, least_over, least_stop}
+use Rattle.gx_exec_contents.specs.PhaseFaults.{AreQuietBelow, fault_in, least_over}
 use Rattle.gx_exec_contents.specs.Worlds.{IsSetting, World, value_in}
 use Rattle.gx_exec_contents.proofs.GrownPlans.{contents-kept}
 use Rattle.gx_exec_contents.proofs.StopsOfNodes.{quiet-nodes_go_on, stops-are_faults}

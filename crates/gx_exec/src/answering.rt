@@ -1,10 +1,40 @@
 //! Actions that are answered: the statements that they use are run in order.
 
-ghost use Rattle.std.specs.Prelude.{◌≡◌, ◌≤◌, ◌<◌, ℕ, [], None, false, true, IfErr, IfOk, IsSome, OnOk, flat_map, length};
+ghost use Rattle.std.specs.Prelude.{
+  ◌≡◌,
+  ◌≤◌,
+  ◌<◌,
+  ℕ,
+  [],
+  None,
+  false,
+  true,
+  IfErr,
+  IfOk,
+  IsSome,
+  OnOk,
+  flat_map,
+  length,
+};
 ghost use Rattle.gx_cluster.specs.States.{shape};
 ghost use Rattle.gx_cluster_state.specs.Shapes.{all_held};
-ghost use Rattle.gx_exec.specs.Courses.{EndsAs, StopsAs, answered, forced_all, targets_of, was_added};
-ghost use Rattle.gx_exec.specs.Engines.{ForcesTo, HoldsWorkOf, IsSteady, MayForce, action_answer, loaded_of, point_of};
+ghost use Rattle.gx_exec.specs.Courses.{
+  EndsAs,
+  StopsAs,
+  answered,
+  forced_all,
+  targets_of,
+  was_added,
+};
+ghost use Rattle.gx_exec.specs.Engines.{
+  ForcesTo,
+  HoldsWorkOf,
+  IsSteady,
+  MayForce,
+  action_answer,
+  loaded_of,
+  point_of,
+};
 ghost use Rattle.gx_model.specs.NamesUsed.{stmts_used};
 ghost use Rattle.gx_model.specs.ScriptMeaning.{fault_of_action};
 ghost use Rattle.gx_plan.specs.PlanInvariant.{IsFrontOf};
@@ -17,14 +47,14 @@ use gx_lineage::BlockId;
 use gx_rows::NoMemory;
 
 impl Engine {
-    /// Runs the statements that action `a` uses, in order, up to the first that has a fault, and then
-    /// the action: the cluster computes the blocks that it prints. They are returned in the order of
-    /// parts, and the cluster holds them all.
+    /// Runs the statements that action `a` uses, in order, up to the first that has a fault, and
+    /// then the action: the cluster computes the blocks that it prints. They are returned in the
+    /// order of parts, and the cluster holds them all.
     ///
     /// # Errors
     ///
-    /// The fault of the first statement that the action uses and that has one; `NoMemory`. The blocks
-    /// that were computed stay in the cluster.
+    /// The fault of the first statement that the action uses and that has one; `NoMemory`. The
+    /// blocks that were computed stay in the cluster.
     pub fn answer(
         &mut self,
         cluster: &mut Cluster<Block>,

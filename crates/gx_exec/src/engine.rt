@@ -1,6 +1,24 @@
 //! The engine.
 
-ghost use Rattle.std.specs.Prelude.{◌≡◌, ◌≤◌, ◌<◌, ◌^◌, ◌-◌, ◌++◌, ◌↔◌, IfOk, IsSome, IsTrue, OnErr, OnOk, Some, false, length, map, slice_get};
+ghost use Rattle.std.specs.Prelude.{
+  ◌≡◌,
+  ◌≤◌,
+  ◌<◌,
+  ◌^◌,
+  ◌-◌,
+  ◌++◌,
+  ◌↔◌,
+  IfOk,
+  IsSome,
+  IsTrue,
+  OnErr,
+  OnOk,
+  Some,
+  false,
+  length,
+  map,
+  slice_get,
+};
 ghost use Rattle.std.specs.List.{range_with_len};
 ghost use Rattle.gx_exec.specs.Courses.{targets_of, was_added};
 ghost use Rattle.gx_exec.specs.Engines.{IsSteady, MayForce, action_answer, loaded_of, with_stmt};
@@ -39,8 +57,8 @@ impl Model for Engine {
 }
 
 impl Engine {
-    /// The engine of a script and its loaded rows, in which no statement was added. Each node of the
-    /// plan will have `parts` parts, and the edges of loads are placed by `cut`.
+    /// The engine of a script and its loaded rows, in which no statement was added. Each node of
+    /// the plan will have `parts` parts, and the edges of loads are placed by `cut`.
     ///
     /// # Errors
     ///
@@ -98,8 +116,8 @@ impl Engine {
         self.work.plan().typed().statement(s)
     }
 
-    // Tells the law of each engine: its world may be run, and the plan is one of its script. It does
-    // nothing.
+    // Tells the law of each engine: its world may be run, and the plan is one of its script. It
+    // does nothing.
     pub(crate) fn is_set(&self)
         ensures { IsSetting self.now.world self.now.planned }
     {

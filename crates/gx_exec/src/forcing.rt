@@ -3,8 +3,24 @@
 ghost use Rattle.std.specs.Prelude.{◌≡◌, ◌≢◌, ◌≤◌, ℕ, [], None, true, IfErr, OnOk, length};
 ghost use Rattle.gx_cluster.specs.States.{shape};
 ghost use Rattle.gx_cluster_state.specs.Shapes.{all_held};
-ghost use Rattle.gx_exec.specs.Courses.{EndsAs, StopsAs, forced, phase, phases, targets_of, was_added};
-ghost use Rattle.gx_exec.specs.Engines.{AreQuiet, ForcesTo, HoldsWorkOf, IsSteady, MayForce, loaded_of, point_of};
+ghost use Rattle.gx_exec.specs.Courses.{
+  EndsAs,
+  StopsAs,
+  forced,
+  phase,
+  phases,
+  targets_of,
+  was_added,
+};
+ghost use Rattle.gx_exec.specs.Engines.{
+  AreQuiet,
+  ForcesTo,
+  HoldsWorkOf,
+  IsSteady,
+  MayForce,
+  loaded_of,
+  point_of,
+};
 ghost use Rattle.gx_exec.specs.Phases.{AreNext, AreUnstopped, HasDemanded, MayJudge};
 ghost use Rattle.gx_model.specs.ScriptMeaning.{fault_of_number};
 ghost use Rattle.gx_plan.specs.PlanInvariant.{IsFrontOf};
@@ -61,8 +77,8 @@ impl Engine {
         self.run_phases(cluster, events, s)
     }
 
-    // Has the cluster compute the blocks of each phase of statement `s`, which was just added, up to
-    // the first phase with a fault.
+    // Has the cluster compute the blocks of each phase of statement `s`, which was just added, up
+    // to the first phase with a fault.
     fn run_phases(
         &self,
         cluster: &mut Cluster<Block>,

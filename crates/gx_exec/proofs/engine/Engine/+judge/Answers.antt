@@ -1,7 +1,7 @@
 use Rattle.std.proofs.Common.{rules}
 use Rattle.gx_cluster.specs.States.{shape}
 use Rattle.gx_cluster_state.specs.Shapes.{is_held}
-use Rattle.gx_exec.proofs.HeldStops.{first-held, rest-held}
+use Rattle.gx_exec.proofs.HeldStops.{first-held}
 use Rattle.gx_exec.proofs.engine.Engine.+judge.Goals as goal
 
 pub least_stop-requires-clause-held : goal.least_stop-requires-clause-held

@@ -1,4 +1,4 @@
-use Rattle.std.proofs.Common.{◌∙◌, ◌≡◌, true, IsSome, ap, subst, sym, arith}
+use Rattle.std.proofs.Common.{◌∙◌, ◌≡◌, true, IsSome, subst, sym, arith}
 use Rattle.gx_cluster.specs.States.{shape}
 use Rattle.gx_cluster_state.specs.Shapes.{all_held}
 use Rattle.gx_plan.proofs.Fronts.{fronts-joined}
