@@ -87,8 +87,8 @@ abbrev pub PassesAs : World → Course → Point → Point → Type 0
 PassesAs w c before after = (q : Planned) → IsFrontOf c.planned q → Passes (net_in w q) c.commands before after
 
 -- the course was gone through up to this fault or to its end, and left this plan
-pub record EndsAs (w : World) (c : Course) (fault : Option Fault) (left : Planned) (before after : Point) : Type 0 where
-  pub fault : c.fault ≡ fault
+pub record EndsAs (w : World) (c : Course) (end : Option Fault) (left : Planned) (before after : Point) : Type 0 where
+  pub fault : c.fault ≡ end
   pub planned : left ≡ c.planned
   pub run : RunsAs w c before after
 

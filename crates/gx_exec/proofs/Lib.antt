@@ -1,0 +1,13 @@
+pub mod AnsweredActions
+pub mod CourseFaults
+pub mod CourseRuns
+pub mod ForcedStatements
+pub mod FreshStatements
+pub mod HeldStops
+pub mod JudgedPhases
+pub mod LargerPlans
+pub mod ModelFaults
+pub mod NeededStatements
+pub mod PhaseOrder
+pub mod PhaseSteps
+pub mod QuietPlans
