@@ -1,0 +1,5 @@
+pub mod AnswersOfParts
+pub mod EdgeOrders
+pub mod Lists
+pub mod StableOrder
+pub mod VertexOrders

@@ -1,0 +1,13 @@
+use Rattle.std.proofs.Common.{◌≡◌, ◌+◌, ◌*◌, ◌^◌, ◌≤◌, length}
+use Rattle.gx_exec_answers.specs.LentRows.{edges_in_parts}
+use Rattle.gx_exec_answers.proofs.counts.edge_count.Given as goal
+
+-- the edges so far and those of the rest are all edges, at most 2^32 for each partition
+abbrev pub invariant-loop-rest : goal.invariant-loop-rest
+invariant-loop-rest l = record {
+  so_far : l.count + length (edges_in_parts l.rest) ≡ length (edges_in_parts l.parts);
+  few : l.count + length l.rest * 2 ^ 32 ≤ 64 * 2 ^ 32;
+}
+
+abbrev pub decreases-loop-rest : goal.decreases-loop-rest
+decreases-loop-rest l = length l.rest

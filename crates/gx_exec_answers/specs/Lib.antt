@@ -1,0 +1,3 @@
+pub mod AnswerRows
+pub mod LentRows
+pub mod VertexOrder
