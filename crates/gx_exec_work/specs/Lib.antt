@@ -1,1 +1,2 @@
+pub mod FittingInputs
 pub mod Works

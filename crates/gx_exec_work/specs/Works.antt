@@ -1,5 +1,5 @@
 -- The work of a planned script, and what its blocks hold.
-use Rattle.std.specs.Prelude.{◌≡◌, ℕ, List, [], map, refl}
+use Rattle.std.specs.Prelude.{◌≡◌, ℕ, List, [], map, ⊤}
 use Rattle.std.specs.List.{AllZip}
 use Rattle.gx_cluster_state.specs.Nets.{Net, net_of}
 use Rattle.gx_exec_contents.specs.BlockContents.{content_of, recipe_of_block}

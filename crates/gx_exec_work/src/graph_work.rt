@@ -7,7 +7,7 @@ ghost use Rattle.gx_exec_contents.specs.MadeBlocks.{made_by};
 ghost use Rattle.gx_exec_contents.specs.BlockContents.{recipe_of_block};
 ghost use Rattle.gx_exec_contents.specs.Worlds.{IsSetting};
 ghost use Rattle.gx_exec_work.specs.Works.{FitsBlock, IsContentOf, freight_of, shown_blocks};
-ghost use Rattle.gx_exec_work.proofs.FittingInputs.{contents_of_inputs-fit};
+ghost use Rattle.gx_exec_work.specs.FittingInputs.{contents_of_inputs-fit};
 ghost use Rattle.gx_plan.specs.PlanInvariant.{IsFrontOf};
 ghost use Rattle.gx_plan.specs.Plans.{IsAdded, empty_plan, with_number};
 ghost use Rattle.gx_plan.specs.StmtNodes.{statement_of};
