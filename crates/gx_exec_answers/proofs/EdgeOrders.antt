@@ -8,9 +8,7 @@ use Rattle.std.proofs.lemmas.List.{get_or-map, length-map}
 use Rattle.std.proofs.lemmas.List.MinMax.{ranks_by}
 use Rattle.std.proofs.lemmas.List.Sorted.{IsPermutation-append, IsPermutation-map, IsPermutation-refl, IsPermutation-sym, IsPermutation-trans}
 use Rattle.gx_rows.specs.Order.{Edge, edge_cmp, edge_cmp-total, row_cmp}
-use Rattle.gx_rows.proofs.Ties.{equal_edges}
 use Rattle.gx_epart.specs.Edges.{IsEdgeOrderOf, edge_order_of}
-use Rattle.gx_epart.proofs.Unique.{IsEdgeOrderOf-unique}
 use Rattle.gx_exec_answers.proofs.StableOrder.{IsPermutation-order_of, IsSortedBy-order_of, order_of}
 
 -- ---- items that are seen as edges, sorted
@@ -52,28 +50,30 @@ is_less e f = is_lt (edge_cmp e f)
 edges_rank : IsStrictWeakOrder is_less
 edges_rank = ranks_by edge_cmp-total (λ e. e)
 
--- the edge order of edges is that of the same edges in another order
-by_permutation : (xs ys : List Edge) → IsPermutation xs ys → order_of is_less edges_rank xs ≡ edge_order_of ys
-by_permutation xs ys same =
-    IsEdgeOrderOf-unique equal_edges ys ordered (record {
-      same = IsPermutation-trans ys xs ordered (IsPermutation-sym xs ys same) (IsPermutation-order_of is_less edges_rank xs);
-      sorted = IsSortedBy-order_of is_less edges_rank xs;
-    })
-  where
-    ordered : List Edge
-    ordered = order_of is_less edges_rank xs
+-- given that edges have one edge order (`edge_order_is_unique` of gx_epart)
+module _ (unique : (edges ordered : List Edge) → IsEdgeOrderOf edges ordered → ordered ≡ edge_order_of edges) where
+  by_permutation : (xs ys : List Edge) → IsPermutation xs ys → order_of is_less edges_rank xs ≡ edge_order_of ys
+  by_permutation xs ys same =
+      unique ys ordered (record {
+        same = IsPermutation-trans ys xs ordered (IsPermutation-sym xs ys same) (IsPermutation-order_of is_less edges_rank xs);
+        sorted = IsSortedBy-order_of is_less edges_rank xs;
+      })
+    where
+      ordered : List Edge
+      ordered = order_of is_less edges_rank xs
 
-pub edge_order_of-IsPermutation : (xs ys : List Edge) → IsPermutation xs ys → edge_order_of xs ≡ edge_order_of ys
-edge_order_of-IsPermutation xs ys same = sym (by_permutation xs xs (IsPermutation-refl xs)) ∙ by_permutation xs ys same
+  -- the edge order of edges is that of the same edges in another order
+  pub edge_order_of-IsPermutation : (xs ys : List Edge) → IsPermutation xs ys → edge_order_of xs ≡ edge_order_of ys
+  edge_order_of-IsPermutation xs ys same = sym (by_permutation xs xs (IsPermutation-refl xs)) ∙ by_permutation xs ys same
 
--- edges in edge order are the same edges
-pub IsPermutation-edge_order_of : (xs : List Edge) → IsPermutation xs (edge_order_of xs)
-IsPermutation-edge_order_of xs =
-    subst (IsPermutation xs) (by_permutation xs xs (IsPermutation-refl xs)) (IsPermutation-order_of is_less edges_rank xs)
+  -- edges in edge order are the same edges
+  pub IsPermutation-edge_order_of : (xs : List Edge) → IsPermutation xs (edge_order_of xs)
+  IsPermutation-edge_order_of xs =
+      subst (IsPermutation xs) (by_permutation xs xs (IsPermutation-refl xs)) (IsPermutation-order_of is_less edges_rank xs)
 
--- the edges of parts, each in edge order, are the edges of the parts
-pub IsPermutation-ordered_parts : {J : Type 0} (part : J → List Edge) (js : List J) → IsPermutation (flat_map part js) (flat_map (λ j. edge_order_of (part j)) js)
-IsPermutation-ordered_parts part [] = IsPermutation-refl []
-IsPermutation-ordered_parts part (j ∷ js) =
-    IsPermutation-append (part j) (edge_order_of (part j)) (flat_map part js) (flat_map (λ j. edge_order_of (part j)) js)
-    (IsPermutation-edge_order_of (part j)) (IsPermutation-ordered_parts part js)
+  -- the edges of parts, each in edge order, are the edges of the parts
+  pub IsPermutation-ordered_parts : {J : Type 0} (part : J → List Edge) (js : List J) → IsPermutation (flat_map part js) (flat_map (λ j. edge_order_of (part j)) js)
+  IsPermutation-ordered_parts part [] = IsPermutation-refl []
+  IsPermutation-ordered_parts part (j ∷ js) =
+      IsPermutation-append (part j) (edge_order_of (part j)) (flat_map part js) (flat_map (λ j. edge_order_of (part j)) js)
+      (IsPermutation-edge_order_of (part j)) (IsPermutation-ordered_parts part js)

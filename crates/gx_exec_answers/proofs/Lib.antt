@@ -1,5 +1,5 @@
 pub mod AnswersOfParts
 pub mod EdgeOrders
-pub mod Lists
+pub mod MovedItems
 pub mod StableOrder
 pub mod VertexOrders

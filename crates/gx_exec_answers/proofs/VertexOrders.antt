@@ -1,7 +1,6 @@
 -- Vertices by identifier: those of several partitions, and those of a table in another order.
 use Rattle.std.proofs.Common.{◌≡◌, Bool, true, false, cond, List, [], ◌∷◌, Option, None, Some, IsPermutation, IsSortedByKey, map, refl, sym, ap, ◌∙◌}
 use Rattle.std.specs.Cmp.{Equal-is, IsStrictWeakOrder}
-use Rattle.std.specs.List.{AllByRecursion}
 use Rattle.std.specs.List.Sorted.{IsStableByKey}
 use Rattle.std.specs.Map.{keys_of}
 use Rattle.std.specs.Ordering.{is_lt}
@@ -63,17 +62,18 @@ order_of-vertices (v ∷ vertices) =
 same_is_equal : (v w : Vid) → is_same_id v w ≡ true → v ≡ w
 same_is_equal v w same = id_cmp-exact v w ((Equal-is (id_cmp v w)).0 same)
 
+-- the vertex has another identifier
+abbrev other_than : Vid → Vertex → Type 0
+other_than q v = is_same_id q v.0 ≡ false
+
 -- the row of an identifier is found alike in another order
 first_row_of-IsPermutation : (q : Vid) (xs ys : List Vertex) → IsPermutation xs ys → HasDistinctIds (keys_of ys) → first_row_of ys q ≡ first_row_of xs q
 first_row_of-IsPermutation q xs ys same distinct = by (first_row_of xs q) refl
   where
-    abbrev is_other : Vertex → Type 0
-    is_other v = is_same_id q v.0 ≡ false
-
     by : (r : Option (List Value)) → first_row_of xs q ≡ r → first_row_of ys q ≡ r
     by None e =
-        let none = All-from_recursion is_other xs (none_passes_from_lookup (is_same_id q) xs e) in
-        lookup-none (is_same_id q) ys (recursion_from_All is_other ys (All-permutation is_other xs ys same none))
+        let none = All-from_recursion (other_than q) xs (none_passes_from_lookup (is_same_id q) xs e) in
+        lookup-none (is_same_id q) ys (recursion_from_All (other_than q) ys (All-permutation (other_than q) xs ys same none))
     by (Some row) e =
         lookup-from_Contains (eq_by_cmp_equiv id_cmp-total) q row ys distinct (Contains-permutation xs ys (q, row) same (Contains-from_lookup same_is_equal q row xs e))
 

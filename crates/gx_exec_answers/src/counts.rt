@@ -60,10 +60,17 @@ fn vertex_count(parts: &[&VPart]) -> u64
     let mut count = 0u64;
     let mut rest = parts;
     while let [part, after @ ..] = rest {
-        count += part.rows().count() as u64;
+        count += row_count(*part) as u64;
         rest = after;
     }
     count
+}
+
+fn row_count(part: &VPart) -> u32
+    ensures count { result ≡ length part.now }
+    ensures fits_u32 { length part.now < 2 ^ 32 }
+{
+    part.rows().count() as u32
 }
 
 fn edge_count(parts: &[&EPart]) -> u64

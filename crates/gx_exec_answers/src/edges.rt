@@ -64,10 +64,7 @@ fn all_edges<'a>(alloc: Global, parts: &[&'a EPart]) -> Result<Vec<(Vid, Vid, &'
     Ok(edges)
 }
 
-fn append_edges<'a>(
-    edges: &mut Vec<(Vid, Vid, &'a Row)>,
-    part: &'a EPart,
-) -> Result<(), NoMemory>
+fn append_edges<'a>(edges: &mut Vec<(Vid, Vid, &'a Row)>, part: &'a EPart) -> Result<(), NoMemory>
     ensures { OnOk result
         (edges_lent edges.new.items ≡ edges_lent edges.old.items ++ part.now) }
 {

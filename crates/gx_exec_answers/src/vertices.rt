@@ -60,10 +60,7 @@ fn all_vertices<'a>(alloc: Global, parts: &[&'a VPart]) -> Result<Vec<(Vid, &'a 
     Ok(vertices)
 }
 
-fn append_vertices<'a>(
-    vertices: &mut Vec<(Vid, &'a Row)>,
-    part: &'a VPart,
-) -> Result<(), NoMemory>
+fn append_vertices<'a>(vertices: &mut Vec<(Vid, &'a Row)>, part: &'a VPart) -> Result<(), NoMemory>
     ensures { OnOk result (vertices_lent vertices.new.items
         ≡ vertices_lent vertices.old.items ++ part.now) }
 {

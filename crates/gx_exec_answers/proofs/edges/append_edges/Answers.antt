@@ -1,4 +1,4 @@
-use Rattle.gx_exec_answers.proofs.Lists.{seen-moved}
+use Rattle.gx_exec_answers.proofs.MovedItems.{seen-moved}
 use Rattle.gx_exec_answers.proofs.edges.append_edges.Goals as goal
 
 pub loop-i-preserved : goal.loop-i-preserved

@@ -1,6 +1,6 @@
-use Rattle.std.proofs.Common.{◌≡◌, ◌++◌, [], ◌∷◌, ap, ◌∙◌}
+use Rattle.std.proofs.Common.{◌++◌, [], ◌∷◌, ap, ◌∙◌}
 use Rattle.gx_rows.specs.Columns.{names_of}
-use Rattle.gx_exec_answers.proofs.Lists.{item-moved}
+use Rattle.gx_exec_answers.proofs.MovedItems.{item-moved}
 use Rattle.gx_exec_answers.proofs.lists.append_columns.Goals as goal
 
 pub loop-i-preserved : goal.loop-i-preserved
