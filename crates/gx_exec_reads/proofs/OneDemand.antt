@@ -30,7 +30,7 @@ action-prints checked values (stmts.PrintTable t) is = tt
 action-prints checked values (stmts.CountVertices g) is = tt
 action-prints checked values (stmts.CountEdges g) is = tt
 action-prints checked values (stmts.CountTable t) is = tt
-action-prints checked values _ is = absurd is
+action-prints checked values _ is = absurd cc
 
 -- the same of statement a of a script
 pub action-prints_at : {Place : Type 0} (script : List CheckedStmt) (values : List (Graph Place)) (a : ℕ) → 1 ≤ a → a ≤ length script

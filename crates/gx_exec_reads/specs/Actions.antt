@@ -1,5 +1,5 @@
 -- Actions, and the statements that they name.
-use Rattle.std.specs.Prelude.{ℕ, ◌≤◌, ⊤, ⊥, List, length}
+use Rattle.std.specs.Prelude.{ℕ, ◌≤◌, ⊤, List, length}
 use Rattle.std.specs.List.{AllByRecursion}
 use Rattle.gx_types_stmts.specs.declared.checked_stmt.CheckedStmt.{CheckedStmt}
 use Rattle.gx_types_stmts.specs.declared.typed_stmt.TypedStmt.{TypedStmt}

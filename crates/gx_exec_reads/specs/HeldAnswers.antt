@@ -11,7 +11,7 @@ use Rattle.gx_lineage.specs.declared.block_id.BlockId.{BlockId}
 use Rattle.gx_model.specs.ActionAnswers.{Answer, count_answer, edges_answer, made_named, vertices_answer}
 use Rattle.gx_plan.specs.StmtNodes.{statement_of}
 use Rattle.gx_rows.specs.declared.value.Value.TheVariants.{Int}
-use Rattle.gx_rows.specs.declared.value_kind.ValueKind.TheVariants as value_kind
+use Rattle.gx_rows.specs.declared.value.ValueKind.TheVariants as value_kind
 use Rattle.gx_rows.specs.declared.vid.Vid.{Vid}
 use Rattle.gx_types_stmts.specs.declared.checked_stmt.CheckedStmt.{CheckedStmt}
 use Rattle.gx_types_stmts.specs.declared.typed_stmt.TypedStmt.{TypedStmt}

@@ -32,10 +32,8 @@ pub(crate) fn vertex_parts<'a>(
     ensures few { IfOk result (λ parts. length parts.items ≤ length blocks.now) }
 {
     let mut parts = Vec::new(alloc);
-    let mut rest = blocks;
-    while let [block, after @ ..] = rest {
+    for block in blocks {
         push_vertices(&mut parts, cluster, *block)?;
-        rest = after;
     }
     Ok(parts)
 }
@@ -90,10 +88,8 @@ pub(crate) fn edge_parts<'a>(
     ensures few { IfOk result (λ parts. length parts.items ≤ length blocks.now) }
 {
     let mut parts = Vec::new(alloc);
-    let mut rest = blocks;
-    while let [block, after @ ..] = rest {
+    for block in blocks {
         push_edges(&mut parts, cluster, *block)?;
-        rest = after;
     }
     Ok(parts)
 }
