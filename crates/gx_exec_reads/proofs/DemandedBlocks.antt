@@ -15,7 +15,7 @@ use Rattle.gx_exec_answers.proofs.AnswersOfParts.{edges-of_ordered_parts}
 use Rattle.gx_exec_contents.proofs.EqualEdges.{edge_cmp-exact}
 use Rattle.gx_exec_contents.proofs.JoinedParts.{edges-are_their_parts, table-is_its_parts}
 use Rattle.gx_exec_contents.proofs.StatementValues.{owned-value, value-placed}
-use Rattle.gx_exec_contents.specs.BlockContents.{content_of, held_by, stop_of}
+use Rattle.gx_exec_contents.specs.BlockContents.{content_of, held_by}
 use Rattle.gx_exec_contents.specs.MadeBlocks.{edges_held, vertices_held}
 use Rattle.gx_exec_contents.specs.PartContents.{held_kind, part_of_edges, part_of_vertices, stop_or}
 use Rattle.gx_exec_contents.specs.PhaseFaults.{AreQuietBelow}

@@ -1,5 +1,5 @@
 -- Statements that are named are in the script.
-use Rattle.std.proofs.Common.{◌≡◌, ℕ, zero, suc, ◌-◌, ◌<◌, ◌≤◌, All, List, [], ◌∷◌, Option, None, Some, length, map, option_map, unwrap_or, refl, sym, subst, arith}
+use Rattle.std.proofs.Common.{◌≡◌, ℕ, zero, suc, ◌-◌, ◌<◌, ◌≤◌, List, [], ◌∷◌, Option, None, Some, length, map, option_map, unwrap_or, refl, subst, arith}
 use Rattle.std.specs.List.{AllByRecursion, slice_get}
 use Rattle.std.proofs.lemmas.List.Elements.{recursion_from_All}
 use Rattle.gx_plan.specs.StmtNodes.{statement_of}
@@ -9,7 +9,7 @@ use Rattle.gx_types_stmts.specs.StmtNumbers.{named_numbers}
 use Rattle.gx_types_stmts.specs.declared.checked_stmt.CheckedStmt.{CheckedStmt}
 use Rattle.gx_types_stmts.specs.declared.typed_stmt.TypedStmt.{TypedStmt}
 use Rattle.gx_types_stmts.specs.declared.typed_stmt.TypedStmt.TheVariants as stmts
-use Rattle.gx_exec_reads.specs.Actions.{AreNumbersIn, IsAction}
+use Rattle.gx_exec_reads.specs.Actions.{AreNumbersIn}
 
 earlier-in : (script : List CheckedStmt) (count : ℕ) (ss : List ℕ) → count ≤ length script → AllByRecursion (IsEarlier count) ss → AreNumbersIn script ss
 earlier-in script count [] within all = tt

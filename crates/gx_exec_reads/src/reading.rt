@@ -19,11 +19,7 @@ ghost use Rattle.gx_types_stmts.specs.StmtNumbers.{named_numbers};
 use crate::partitions::{edge_parts, vertex_parts};
 use gx_cluster::Cluster;
 use gx_exec_answers::{
-    Answer,
-    edge_count_answer,
-    edges_answer,
-    vertex_count_answer,
-    vertices_answer,
+    Answer, edge_count_answer, edges_answer, vertex_count_answer, vertices_answer,
 };
 use gx_exec_work::Block;
 use gx_lineage::BlockId;
@@ -31,8 +27,8 @@ use gx_rows::{NoMemory, RowType};
 use gx_types::{Typed, TypedStmt};
 use std::alloc::Global;
 
-/// What action `a`, counted from 1, prints, read from these blocks as the cluster holds them, in any
-/// order. A block that is not held, or of another kind than the action prints, adds nothing.
+/// What action `a`, counted from 1, prints, read from these blocks as the cluster holds them. A block
+/// that is not held, or of another kind than the action prints, adds nothing.
 ///
 /// # Errors
 ///

@@ -1,4 +1,4 @@
-use Rattle.std.proofs.Common.{sym, subst}
+use Rattle.std.proofs.Common.{subst}
 use Rattle.gx_exec_reads.specs.Actions.{IsAction}
 use Rattle.gx_exec_reads.specs.HeldAnswers.{answer_of_blocks}
 use Rattle.gx_exec_reads.proofs.NamesInScript.{action-at, names-in_script}
