@@ -1,9 +1,0 @@
-pub mod EdgeOrders
-pub mod ForcedInOrder
-pub mod LoadedRowsAt
-pub mod MappedRows
-pub mod MissingIds
-pub mod NeedsInOrder
-pub mod NoValues
-pub mod PlainEdges
-pub mod StatementRuns

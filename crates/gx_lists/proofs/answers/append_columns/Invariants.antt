@@ -1,6 +1,0 @@
-use Rattle.std.proofs.Common.{◌≡◌, ◌++◌, drop}
-use Rattle.gx_rows.specs.Columns.{names_of}
-use Rattle.gx_lists.proofs.answers.append_columns.Given as goal
-
-abbrev pub invariant-loop-i : goal.invariant-loop-i
-invariant-loop-i l = l.header.items ++ drop l.i (names_of l.columns) ≡ l.fn.header.items ++ names_of l.columns
