@@ -24,13 +24,13 @@ use Rattle.gx_rows.specs.declared.fault.Fault.{Fault}
 use Rattle.gx_types_stmts.specs.declared.checked_stmt.CheckedStmt.{CheckedStmt}
 use Rattle.gx_types_stmts.specs.declared.typed_stmt.TypedStmt.{TypedStmt}
 use Rattle.gx_types_stmts.specs.declared.typed_stmt.TypedStmt.TheVariants as stmts
-use Rattle.gx_exec_contents.specs.Worlds.{IsWorld, World}
+use Rattle.gx_exec_contents.specs.Worlds.{IsWorld, World, loaded_in}
 use Rattle.gx_exec_work.specs.Works.{PlannedWorld, net_in}
 use Rattle.gx_exec_work.specs.declared.block.Block.{Block}
 use Rattle.gx_exec.specs.declared.run_stop.RunStop.{RunStop}
 use Rattle.gx_exec.specs.declared.run_stop.RunStop.TheVariants as run_stop
 use Rattle.gx_exec.specs.Courses.{Course, EndsAs, PassesAs, StopsAs, answered, fault_of_phase, forced, forced_all, joined, phase, phases, still, targets_of, was_added}
-use Rattle.gx_exec.specs.Engines.{ForcesTo, HoldsWorkOf, IsSteady, MayForce, action_answer, loaded_of, point_of, with_stmt}
+use Rattle.gx_exec.specs.Engines.{ForcesTo, HoldsWorkOf, IsSteady, MayForce, action_answer, point_of, with_stmt}
 use Rattle.gx_exec.proofs.CourseFaults.{found-statement, front-forced, front-forced_all}
 use Rattle.gx_exec.proofs.CourseRuns.{OnCourse, course-ends, course-last, course-last_stops, course-more, course-starts, course-stops, front-same, passes-all}
 use Rattle.gx_exec.proofs.ForcedStatements.{forced-phases}
@@ -48,7 +48,7 @@ pub record IsForcing (a : ℕ) (e : PlannedWorld) (c : State Block) (f : Planned
   pub later : (n : ℕ) → a ≤ n → was_added f.planned n ≡ was_added e.planned n
   pub order : AreForcedTo (stmts_used e.world.script a) rest f.planned
   pub low : AllByRecursion (λ s. 1 ≤ s) rest
-  pub fault : fault_among (loaded_of e.world) rest ≡ fault_of_action (loaded_of e.world) a
+  pub fault : fault_among (loaded_in e.world) rest ≡ fault_of_action (loaded_in e.world) a
   pub course : OnCourse e.world (forced_all e.world e.planned (stmts_used e.world.script a)) (forced_all e.world f.planned rest) (point_of c) (point_of d)
 
 module _ (a : ℕ) (e : PlannedWorld) (c : State Block) (world : IsWorld e.world) (low : 1 ≤ a) (high : a ≤ length e.world.script) where
@@ -75,7 +75,7 @@ module _ (a : ℕ) (e : PlannedWorld) (c : State Block) (world : IsWorld e.world
     first-none u v none = rw none refl
 
     pub forcing-more : (g : PlannedWorld) (o : State Block) → g.world ≡ f.world → IsFrontOf f.planned g.planned → IsSteady g → HoldsWorkOf g o → length o.running ≡ length d.running
-        → ((n : ℕ) → n ≢ s → 1 ≤ n → was_added g.planned n ≡ was_added f.planned n) → IsAdded g.planned s → fault_of_number (loaded_of f.world) s ≡ None
+        → ((n : ℕ) → n ≢ s → 1 ≤ n → was_added g.planned n ≡ was_added f.planned n) → IsAdded g.planned s → fault_of_number (loaded_in f.world) s ≡ None
         → EndsAs f.world (forced f.world f.planned s) None g.planned (point_of d) (point_of o) → IsForcing a e c g o ss
     forcing-more g o same front steady contents workers others added none ends =
         let h : IsForcing a e c f d (s ∷ ss) = subst (IsForcing a e c f d) el all in
@@ -89,7 +89,7 @@ module _ (a : ℕ) (e : PlannedWorld) (c : State Block) (world : IsWorld e.world
           later = λ n above. others n (λ e. absurd (omega (arith, e, above, range.0, range.1))) (omega (arith, low, above)) ∙ h.later n above;
           order = AreForcedTo-more (stmts_used e.world.script a) s ss f.planned g.planned front.added added h.order;
           low = h.low.1;
-          fault = first-none (fault_of_number (loaded_of e.world) s) (fault_among (loaded_of e.world) ss) (subst (λ v. fault_of_number (loaded_of v) s ≡ None) h.world none) ∙ h.fault;
+          fault = first-none (fault_of_number (loaded_in e.world) s) (fault_among (loaded_in e.world) ss) (subst (λ v. fault_of_number (loaded_in v) s ≡ None) h.world none) ∙ h.fault;
           course = course-more e.world (forced_all e.world e.planned (stmts_used e.world.script a)) (forced e.world f.planned s) (λ q. forced_all e.world q ss) g.planned (point_of c) (point_of d) (point_of o)
               (front-forced_all e.world (forced e.world f.planned s).planned ss h.low.1) h.course
               (subst (λ v. EndsAs v (forced v f.planned s) None g.planned (point_of d) (point_of o)) h.world ends);
@@ -103,10 +103,10 @@ module _ (a : ℕ) (e : PlannedWorld) (c : State Block) (world : IsWorld e.world
         (front-forced_all e.world (forced e.world f.planned s).planned ss h.low.1) h.course
         (subst (λ v. StopsAs stop v (forced v f.planned s) left (point_of d) (point_of o)) h.world stops)
 
-    pub forcing-exact : (A B : Type 0) (stop : RunStop) → ForcesTo {A = A} (Err stop) (fault_of_number (loaded_of f.world) s) → ForcesTo {A = B} (Err stop) (fault_of_action (loaded_of e.world) a)
+    pub forcing-exact : (A B : Type 0) (stop : RunStop) → ForcesTo {A = A} (Err stop) (fault_of_number (loaded_in f.world) s) → ForcesTo {A = B} (Err stop) (fault_of_action (loaded_in e.world) a)
     forcing-exact A B (run_stop.Fault x) exact =
         let h : IsForcing a e c f d (s ∷ ss) = subst (IsForcing a e c f d) el all in
-        sym h.fault ∙ ap (λ u. first_fault u (fault_among (loaded_of e.world) ss)) (subst (λ v. fault_of_number (loaded_of v) s ≡ Some x) h.world exact)
+        sym h.fault ∙ ap (λ u. first_fault u (fault_among (loaded_in e.world) ss)) (subst (λ v. fault_of_number (loaded_in v) s ≡ Some x) h.world exact)
     forcing-exact A B run_stop.NoMemory exact = tt
 
     pub forcing-later : (g : PlannedWorld) → ((n : ℕ) → n ≢ s → 1 ≤ n → was_added g.planned n ≡ was_added f.planned n) → (n : ℕ) → a ≤ n → was_added g.planned n ≡ was_added e.planned n
@@ -121,7 +121,7 @@ module _ (a : ℕ) (e : PlannedWorld) (c : State Block) (world : IsWorld e.world
   forcing-ends f d left el all =
       course-ends e.world (forced_all e.world e.planned (stmts_used e.world.script a)) f.planned (point_of c) (point_of d) (subst (IsForcing a e c f d) el all).course
 
-  pub forcing-none : (f : PlannedWorld) (d : State Block) (left : List ℕ) → left ≡ [] → IsForcing a e c f d left → fault_of_action (loaded_of e.world) a ≡ None
+  pub forcing-none : (f : PlannedWorld) (d : State Block) (left : List ℕ) → left ≡ [] → IsForcing a e c f d left → fault_of_action (loaded_in e.world) a ≡ None
   forcing-none f d left el all = sym (subst (IsForcing a e c f d) el all).fault
 
   pub forcing-last : (f : PlannedWorld) (d : State Block) (left : List ℕ) → left ≡ [] → IsForcing a e c f d left → MayForce f a
@@ -190,12 +190,12 @@ demands-one checked gs s (stmts.CountEdges g) is = (recipe_of kind.Edges g, refl
 demands-one checked gs s (stmts.CountTable t) is = (recipe_of kind.Vertices t, refl)
 demands-one checked gs s _ is = absurd (not_true is)
 
-one-phase : (w : World) (s : ℕ) → 1 ≤ s → s ≤ length w.script → IsSome (action_answer (loaded_of w) s) → (p : Planned) → (ns : List NodeId) × (phases_of w.script p s ≡ ns ∷ [])
+one-phase : (w : World) (s : ℕ) → 1 ≤ s → s ≤ length w.script → IsSome (action_answer (loaded_in w) s) → (p : Planned) → (ns : List NodeId) × (phases_of w.script p s ≡ ns ∷ [])
 one-phase w s low high is p =
     let st = statement_of w.script s in
-    let of_stmt : IsSome (option_and_then (answer_of_stmt w.script (plain_values (loaded_of w))) (Some st)) =
-    subst (λ o. IsSome (option_and_then (answer_of_stmt w.script (plain_values (loaded_of w))) o)) (found-statement w.script (s - 1) (omega (arith, low, high))) is in
-    let one = demands-one w.script (plain_values (loaded_of w)) s st of_stmt in
+    let of_stmt : IsSome (option_and_then (answer_of_stmt w.script (plain_values (loaded_in w))) (Some st)) =
+    subst (λ o. IsSome (option_and_then (answer_of_stmt w.script (plain_values (loaded_in w))) o)) (found-statement w.script (s - 1) (omega (arith, low, high))) is in
+    let one = demands-one w.script (plain_values (loaded_in w)) s st of_stmt in
     (option_to_list (node_of p one.0), ap (map (λ r. option_to_list (node_of p r))) one.1)
 
 one-held : (n : Net) (f : Option Fault) (w : World) (s : ℕ) (ns : List NodeId) (q : Planned) (x y : Point) → fault_of_phase w q s ns ≡ f → (joined f (phase w s ns q) (still q)).fault ≡ None
@@ -203,7 +203,7 @@ one-held : (n : Net) (f : Option Fault) (w : World) (s : ℕ) (ns : List NodeId)
 one-held n None w s ns q x y is none run = subst (λ z. all_held z.shape (targets_of w ns) ≡ true) (sym run.2) run.1.held
 one-held n (Some f) w s ns q x y is none run = let contrary : Some f ≡ None = sym is ∙ none in absurd (cc)
 
-pub action-held : (e f : PlannedWorld) (a : ℕ) → 1 ≤ a → a ≤ length e.world.script → IsSome (action_answer (loaded_of e.world) a) → was_added e.planned a ≡ false → (x y : Point)
+pub action-held : (e f : PlannedWorld) (a : ℕ) → 1 ≤ a → a ≤ length e.world.script → IsSome (action_answer (loaded_in e.world) a) → was_added e.planned a ≡ false → (x y : Point)
     → f.world ≡ e.world → EndsAs e.world (forced e.world e.planned a) None f.planned x y → all_held y.shape (targets_of f.world (flat_map (λ ns. ns) (phases_of f.world.script f.planned a))) ≡ true
 action-held e f a low high is fresh x y same ends =
     let w = e.world in

@@ -20,10 +20,10 @@ use Rattle.gx_types_stmts.specs.declared.typed_stmt.TypedStmt.{TypedStmt}
 use Rattle.gx_types_stmts.specs.declared.typed_stmt.TypedStmt.TheVariants as stmts
 use Rattle.gx_exec_contents.specs.PartContents.{fault_kind, first_given}
 use Rattle.gx_exec_contents.specs.PhaseFaults.{fault_in, fault_of_stop}
-use Rattle.gx_exec_contents.specs.Worlds.{IsSetting, World, value_in}
+use Rattle.gx_exec_contents.specs.Worlds.{IsSetting, World, loaded_in, value_in}
 use Rattle.gx_exec_work.specs.Works.{PlannedWorld}
 use Rattle.gx_exec.specs.Courses.{Course, fault_of_phase, forced, forced_all, joined, phase, phases, still, was_added}
-use Rattle.gx_exec.specs.Engines.{AreQuiet, IsSteady, MayForce, loaded_of}
+use Rattle.gx_exec.specs.Engines.{AreQuiet, IsSteady, MayForce}
 use Rattle.gx_exec.proofs.CourseRuns.{front-same, joined-front}
 use Rattle.gx_exec.proofs.FreshStatements.{fresh-result}
 use Rattle.gx_exec.proofs.PhaseOrder.{demanded-added, demanded-earlier, front, nodes_from, phases-are, recipes-after}
@@ -109,9 +109,9 @@ found-statement [] k within = absurd (omega (arith, within))
 found-statement (c ∷ script) zero within = refl
 found-statement (c ∷ script) (suc k) within = found-statement script k (omega (arith, within))
 
-number-fault : (w : World) (s : ℕ) → 1 ≤ s → s ≤ length w.script → fault_of_number (loaded_of w) s ≡ fault_of_stmt (plain_values (loaded_of w)) s (statement_of w.script s)
+number-fault : (w : World) (s : ℕ) → 1 ≤ s → s ≤ length w.script → fault_of_number (loaded_in w) s ≡ fault_of_stmt (plain_values (loaded_in w)) s (statement_of w.script s)
 number-fault w s low high =
-    ap (option_and_then (fault_of_stmt (plain_values (loaded_of w)) s)) (found-statement w.script (s - 1) (omega (arith, low, high)))
+    ap (option_and_then (fault_of_stmt (plain_values (loaded_in w)) s)) (found-statement w.script (s - 1) (omega (arith, low, high)))
 
 module _ (e : PlannedWorld) (setting : IsSetting e.world e.planned) (s : ℕ) (may : MayForce e s) where
   abbrev w : World
@@ -126,7 +126,7 @@ module _ (e : PlannedWorld) (setting : IsSetting e.world e.planned) (s : ℕ) (m
   abbrev st : TypedStmt
   st = statement_of e.world.script s
 
-  fresh-fault : AreQuiet e → was_added p s ≡ false → (phases w s (phases_of w.script q s) q).fault ≡ fault_of_number (loaded_of w) s
+  fresh-fault : AreQuiet e → was_added p s ≡ false → (phases w s (phases_of w.script q s) q).fault ≡ fault_of_number (loaded_in w) s
   fresh-fault quiet fresh =
       let demanded = map (λ r. option_to_list (node_of q r)) (demanded_by st) in
       let own = nodes_from (length p.lineage.nodes) (length (own_kinds st)) in
@@ -140,16 +140,16 @@ module _ (e : PlannedWorld) (setting : IsSetting e.world e.planned) (s : ℕ) (m
       (earlier-faults w q s (length p.lineage.nodes) demanded
       (λ n below. ap (fault_in w) (kept-recipe n below) ∙ quiet-fault w p setting quiet n below)
       (demanded-earlier e setting s may fresh (demanded_by st) (demanded-added e setting s may fresh)))
-      ∙ or-none (fault_of_number (loaded_of w) s)
+      ∙ or-none (fault_of_number (loaded_in w) s)
     where
       kept-recipe : (n : NodeId) → n.0 < length p.lineage.nodes → recipe_at q.recipes n.0 ≡ recipe_at p.recipes n.0
       kept-recipe n below =
           ap (λ rs. recipe_at rs n.0) (recipes-after e setting s may fresh)
           ∙ get_or_append_left p.recipes (own_recipes s st) _ n.0 (omega (arith, below, setting.plan.recipes))
 
-  pub forced-fault : IsSteady e → (forced e.world e.planned s).fault ≡ fault_of_number (loaded_of e.world) s
+  pub forced-fault : IsSteady e → (forced e.world e.planned s).fault ≡ fault_of_number (loaded_in e.world) s
   forced-fault steady = by (was_added p s) refl
     where
-      by : (b : Bool) → was_added p s ≡ b → (if b then still p else phases w s (phases_of w.script q s) q).fault ≡ fault_of_number (loaded_of w) s
+      by : (b : Bool) → was_added p s ≡ b → (if b then still p else phases w s (phases_of w.script q s) q).fault ≡ fault_of_number (loaded_in w) s
       by true was = sym (steady.clean s (record { from_one = may.from_one; within = omega (arith, may.within, setting.plan.results); result = was }))
       by false fresh = fresh-fault steady.quiet fresh

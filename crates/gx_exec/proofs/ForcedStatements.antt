@@ -6,12 +6,12 @@ use Rattle.gx_lineage.specs.declared.node_id.NodeId.{NodeId}
 use Rattle.gx_model.specs.ScriptMeaning.{fault_of_number}
 use Rattle.gx_plan.specs.PlanInvariant.{IsFrontOf}
 use Rattle.gx_plan.specs.Plans.{IsAdded, Planned, phases_of, with_number}
-use Rattle.gx_exec_contents.specs.Worlds.{IsSetting, World}
+use Rattle.gx_exec_contents.specs.Worlds.{IsSetting, World, loaded_in}
 use Rattle.gx_exec_work.specs.Works.{PlannedWorld}
 use Rattle.gx_exec_work.specs.declared.block.Block.{Block}
 use Rattle.gx_exec.specs.declared.run_stop.RunStop.{RunStop}
 use Rattle.gx_exec.specs.Courses.{Course, EndsAs, StopsAs, forced, phases, still, was_added}
-use Rattle.gx_exec.specs.Engines.{AreQuiet, ForcesTo, HoldsWorkOf, IsSteady, MayForce, loaded_of, point_of, with_stmt}
+use Rattle.gx_exec.specs.Engines.{AreQuiet, ForcesTo, HoldsWorkOf, IsSteady, MayForce, point_of, with_stmt}
 use Rattle.gx_exec.specs.Phases.{AreNext}
 use Rattle.gx_exec.proofs.CourseRuns.{OnCourse}
 use Rattle.gx_exec.proofs.FreshStatements.{added-cases, added-here, others-kept}
@@ -77,16 +77,16 @@ module _ (e f : PlannedWorld) (s : ℕ) (fresh : was_added e.planned s ≡ false
     pub after-others : (n : ℕ) → n ≢ s → 1 ≤ n → was_added f.planned n ≡ was_added e.planned n
     after-others n apart low = ap (λ g. was_added g.planned n) is ∙ others-kept e.world.script e.planned s may.from_one n apart low
 
-    steady-now : AreQuiet f → fault_of_number (loaded_of e.world) s ≡ None → IsSteady f
+    steady-now : AreQuiet f → fault_of_number (loaded_in e.world) s ≡ None → IsSteady f
     steady-now quiet none = record {
       quiet = quiet;
-      clean = subst (λ g. (n : ℕ) → IsAdded g.planned n → fault_of_number (loaded_of g.world) n ≡ None) (sym is)
+      clean = subst (λ g. (n : ℕ) → IsAdded g.planned n → fault_of_number (loaded_in g.world) n ≡ None) (sym is)
           (λ n added. elim (added-cases e.world.script e.planned s may.from_one n added) [
             | inl before ↦ steady.clean n before
-            | inr same ↦ subst (λ m. fault_of_number (loaded_of e.world) m ≡ None) (sym same) none
+            | inr same ↦ subst (λ m. fault_of_number (loaded_in e.world) m ≡ None) (sym same) none
           ]);
     }
 
-    pub after-steady : {A : Type 0} (r : Result A RunStop) → OnOk r (AreQuiet f) → ForcesTo r (fault_of_number (loaded_of e.world) s) → OnOk r (IsSteady f)
+    pub after-steady : {A : Type 0} (r : Result A RunStop) → OnOk r (AreQuiet f) → ForcesTo r (fault_of_number (loaded_in e.world) s) → OnOk r (IsSteady f)
     after-steady (Ok a) quiet exact = steady-now quiet exact
     after-steady (Err stop) quiet exact = tt

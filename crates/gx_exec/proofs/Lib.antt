@@ -11,3 +11,4 @@ pub mod NeededStatements
 pub mod PhaseOrder
 pub mod PhaseSteps
 pub mod QuietPlans
+pub mod ReadActions

@@ -8,7 +8,7 @@ use Rattle.gx_types_stmts.specs.declared.checked_stmt.CheckedStmt.{CheckedStmt}
 use Rattle.gx_types_stmts.specs.declared.typed_stmt.TypedStmt.TheVariants as stmts
 use Rattle.gx_model.specs.NamesUsed.{stmts_used}
 use Rattle.gx_model.proofs.NumberLists.{Ascends, IsIn, all_at}
-use Rattle.gx_model.proofs.UsedStatements.{IsClosedList, item_at, stmts_used-closed, stmts_used-needed, uses_are_earlier}
+use Rattle.gx_model.proofs.UsedStatements.{IsClosedList, item_at, stmts_used-closed, stmts_used-needed, statements_are_sound}
 use Rattle.gx_plan.specs.Plans.{IsAdded, Planned}
 use Rattle.gx_plan.specs.StmtNodes.{statement_of}
 use Rattle.gx_exec_contents.specs.Worlds.{IsWorld, World}
@@ -77,7 +77,7 @@ module _ (w : World) (world : IsWorld w) where
           named = subst (AllByRecursion (IsAdded p)) (sym (names-are s item.0 item.1))
               (all-from (IsAdded p) item.0.uses
               (λ u uses.
-              let early = uses_are_earlier w.script world.earlier (s - 1) item.0 u item.1 uses in
+              let early = statements_are_sound w.script world.earlier (s - 1) item.0 u item.1 uses in
               let less : u < s = omega (arith, early.0, early.1, range.0) in
               elim (so_far.done u (used-closed.closed s item.0 u is_in item.1 uses)) [
                 | inl left ↦ absurd (not-later s u ss so_far.ascends less left)
@@ -95,7 +95,7 @@ module _ (w : World) (world : IsWorld w) where
           named = subst (AllByRecursion (IsAdded p)) (sym (names-are a item.0 item.1))
               (all-from (IsAdded p) item.0.uses
               (λ u uses.
-              let early = uses_are_earlier w.script world.earlier (a - 1) item.0 u item.1 uses in
+              let early = statements_are_sound w.script world.earlier (a - 1) item.0 u item.1 uses in
               elim (so_far.done u (used-closed.has_wanted u uses early.0 early.1)) [
                 | inl left ↦ absurd left
                 | inr added ↦ added

@@ -5,7 +5,7 @@ use Rattle.std.specs.Option.{option_and_then}
 use Rattle.gx_cluster.specs.States.{HoldsContents, State, shape}
 use Rattle.gx_cluster_state.specs.Runs.{Point}
 use Rattle.gx_exec_contents.specs.PhaseFaults.{AreQuietBelow}
-use Rattle.gx_exec_contents.specs.Worlds.{World}
+use Rattle.gx_exec_contents.specs.Worlds.{loaded_in}
 use Rattle.gx_exec_work.specs.Works.{IsContentOf, PlannedWorld}
 use Rattle.gx_exec_work.specs.declared.block.Block.{Block}
 use Rattle.gx_model.specs.ActionAnswers.{Answer, answer_of_stmt}
@@ -16,10 +16,6 @@ use Rattle.gx_rows.specs.declared.fault.Fault.{Fault}
 use Rattle.gx_types_stmts.specs.StmtNumbers.{named_numbers}
 use Rattle.gx_exec.specs.declared.run_stop.RunStop.{RunStop}
 use Rattle.gx_exec.specs.declared.run_stop.RunStop.TheVariants as run_stop
-
--- the script with its rows, as the model has them
-abbrev pub loaded_of : World → Loaded
-loaded_of w = record { checked = w.script; loads = w.loads }
 
 -- what statement s prints, if it is an action
 abbrev pub action_answer : Loaded → ℕ → Option Answer
@@ -38,7 +34,7 @@ AreQuiet e = AreQuietBelow e.world e.planned (length e.planned.lineage.nodes)
 -- no block of the plan is stopped, and no statement that was added has a fault
 pub record IsSteady (e : PlannedWorld) : Type 0 where
   pub quiet : AreQuiet e
-  pub clean : (s : ℕ) → IsAdded e.planned s → fault_of_number (loaded_of e.world) s ≡ None
+  pub clean : (s : ℕ) → IsAdded e.planned s → fault_of_number (loaded_in e.world) s ≡ None
 
 -- each block that the cluster holds or has captured is a content
 abbrev pub HoldsWorkOf : PlannedWorld → State Block → Type 0

@@ -1,4 +1,3 @@
 pub mod Courses
 pub mod Engines
-pub mod HeldAnswers
 pub mod Phases

@@ -21,8 +21,8 @@ ghost use Rattle.std.specs.Prelude.{
 };
 ghost use Rattle.std.specs.List.{range_with_len};
 ghost use Rattle.gx_exec.specs.Courses.{targets_of, was_added};
-ghost use Rattle.gx_exec.specs.Engines.{IsSteady, MayForce, action_answer, loaded_of, with_stmt};
-ghost use Rattle.gx_exec_contents.specs.Worlds.{IsSetting};
+ghost use Rattle.gx_exec.specs.Engines.{IsSteady, MayForce, action_answer, with_stmt};
+ghost use Rattle.gx_exec_contents.specs.Worlds.{IsSetting, loaded_in};
 ghost use Rattle.gx_lineage.specs.Lineage.{blocks_at};
 ghost use Rattle.gx_model.specs.ScriptMeaning.{stmts_in};
 ghost use Rattle.gx_plan.specs.Plans.{empty_plan, phases_of};
@@ -94,7 +94,7 @@ impl Engine {
     pub fn is_action(&self, s: u32) -> bool
         requires from_one { 1 ≤ s }
         requires within { s ≤ length self.now.world.script }
-        ensures { IsTrue result ↔ IsSome (action_answer (loaded_of self.now.world) s) }
+        ensures { IsTrue result ↔ IsSome (action_answer (loaded_in self.now.world) s) }
     {
         matches!(
             self.statement(s),
@@ -111,7 +111,7 @@ impl Engine {
     pub(crate) fn statement(&self, s: u32) -> &TypedStmt
         requires from_one { 1 ≤ s }
         requires within { s ≤ length self.now.world.script }
-        ensures { slice_get (stmts_in (loaded_of self.now.world)) (s - 1) ≡ Some result.now }
+        ensures { slice_get (stmts_in (loaded_in self.now.world)) (s - 1) ≡ Some result.now }
     {
         self.work.plan().typed().statement(s)
     }

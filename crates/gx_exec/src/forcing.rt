@@ -12,15 +12,8 @@ ghost use Rattle.gx_exec.specs.Courses.{
   targets_of,
   was_added,
 };
-ghost use Rattle.gx_exec.specs.Engines.{
-  AreQuiet,
-  ForcesTo,
-  HoldsWorkOf,
-  IsSteady,
-  MayForce,
-  loaded_of,
-  point_of,
-};
+ghost use Rattle.gx_exec.specs.Engines.{AreQuiet, ForcesTo, HoldsWorkOf, IsSteady, MayForce, point_of};
+ghost use Rattle.gx_exec_contents.specs.Worlds.{loaded_in};
 ghost use Rattle.gx_exec.specs.Phases.{AreNext, AreUnstopped, HasDemanded, MayJudge};
 ghost use Rattle.gx_model.specs.ScriptMeaning.{fault_of_number};
 ghost use Rattle.gx_plan.specs.PlanInvariant.{IsFrontOf};
@@ -56,7 +49,7 @@ impl Engine {
         ensures stop { IfErr result (λ stop. StopsAs stop self.old.world
             (forced self.old.world self.old.planned s) self.new.planned
             (point_of cluster.old) (point_of cluster.new)) }
-        ensures exact { ForcesTo result (fault_of_number (loaded_of self.old.world) s) }
+        ensures exact { ForcesTo result (fault_of_number (loaded_in self.old.world) s) }
         ensures world_kept { self.new.world ≡ self.old.world }
         ensures front { IsFrontOf self.old.planned self.new.planned }
         ensures contents_kept { HoldsWorkOf self.new cluster.new }

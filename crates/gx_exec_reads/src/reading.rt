@@ -47,7 +47,7 @@ pub fn read_answer(
     ensures { IfOk result (λ answer. answer_record answer
         ≡ answer_of_blocks typed.now a (held_contents cluster.now.held blocks.now)) }
 {
-    typed.uses_are_earlier();
+    typed.statements_are_sound();
     answer_of(alloc, typed, typed.statement(a), cluster, blocks)
 }
 

@@ -53,8 +53,8 @@ module _ (checked : List CheckedStmt) (earlier : UseEarlier checked) where
       by k c wanted at rest true e = more k c wanted (used_from k (wanted ++ c.uses)) at (in_from_any (k + 1) wanted e) (rest (wanted ++ c.uses))
       by k c wanted at rest false e = skip k c wanted (used_from k wanted) at (not_in_from_any (k + 1) wanted e) (rest wanted)
 
-  pub uses_are_earlier : (k : ℕ) (c : CheckedStmt) (u : ℕ) → slice_get checked k ≡ Some c → IsIn u c.uses → IsEarlier k u
-  uses_are_earlier k c u at is_in = all_at (IsEarlier k) u c.uses (recursion_from_All (IsEarlier k) c.uses (earlier k c at)) is_in
+  pub statements_are_sound : (k : ℕ) (c : CheckedStmt) (u : ℕ) → slice_get checked k ≡ Some c → IsIn u c.uses → IsEarlier k u
+  statements_are_sound k c u at is_in = all_at (IsEarlier k) u c.uses (recursion_from_All (IsEarlier k) c.uses (earlier k c at)) is_in
 
   -- of the first k statements, ascending: those that are wanted, with all that they use
   pub record IsClosedList (k : ℕ) (wanted used : List ℕ) : Type 0 where
@@ -99,7 +99,7 @@ module _ (checked : List CheckedStmt) (earlier : UseEarlier checked) where
       of_last : (n : ℕ) (t : CheckedStmt) (u : ℕ) → IsIn n ((k + 1) ∷ []) → slice_get checked (n - 1) ≡ Some t → IsIn u t.uses → IsIn u used
       of_last n t u (inl e) is_at uses =
           let of_c : IsIn u c.uses = subst (λ (s : CheckedStmt). IsIn u s.uses) (same_stmt n t e is_at) uses in
-          let early = uses_are_earlier k c u at of_c in
+          let early = statements_are_sound k c u at of_c in
           rest.has_wanted u (in_right u wanted c.uses of_c) early.0 early.1
       of_last n t u (inr none) is_at uses = absurd none
 
@@ -147,7 +147,7 @@ module _ (checked : List CheckedStmt) (earlier : UseEarlier checked) where
             let both : Some t ≡ Some c = sym is_at ∙ at in
             let same : t ≡ c = cc in
             let is_in : IsIn u c.uses = subst (λ (x : CheckedStmt). IsIn u x.uses) same (in_from_among u t.uses among) in
-            let early = uses_are_earlier (s - 1) c u at is_in in
+            let early = statements_are_sound (s - 1) c u at is_in in
             (used_is_closed (s - 1) c.uses within).has_wanted u is_in early.0 early.1
     is_needed-in v (through {u} needed uses) =
         (used_is_closed (s - 1) c.uses within).closed u uses.statement v (is_needed-in u needed) uses.is_statement (in_from_among v uses.statement.uses uses.is_used)
@@ -158,9 +158,9 @@ module _ (checked : List CheckedStmt) (earlier : UseEarlier checked) where
     needed_only : (u : ℕ) → IsIn u (used_from (s - 1) c.uses) → (1 ≤ u) × IsNeeded checked s u
     needed_only u is_in =
         used_only (λ n. (1 ≤ n) × IsNeeded checked s n)
-        (λ n t m needed is_at uses. ((uses_are_earlier (n - 1) t m is_at uses).0, through needed.1 (record { from_one = needed.0; statement = t; is_statement = is_at; is_used = among_from_in m t.uses uses })))
+        (λ n t m needed is_at uses. ((statements_are_sound (n - 1) t m is_at uses).0, through needed.1 (record { from_one = needed.0; statement = t; is_statement = is_at; is_used = among_from_in m t.uses uses })))
         (s - 1) c.uses within
-        (λ n is_in. ((uses_are_earlier (s - 1) c n at is_in).0, of_uses n is_in))
+        (λ n is_in. ((statements_are_sound (s - 1) c n at is_in).0, of_uses n is_in))
         u is_in
 
     -- all that is needed, ascending, is what the definition computes

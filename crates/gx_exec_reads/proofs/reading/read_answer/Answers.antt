@@ -10,7 +10,7 @@ answer_of-requires-clause-is_action c =
 
 pub answer_of-requires-clause-names : goal.answer_of-requires-clause-names
 answer_of-requires-clause-names c =
-    names-in_script c.args.typed.now c.args.a c.statement.result.now c.uses_are_earlier.ensures.earlier c.requires.within c.statement.ensures.named
+    names-in_script c.args.typed.now c.args.a c.statement.result.now c.statements_are_sound.ensures.earlier c.requires.within c.statement.ensures.named
 
 pub returns : goal.returns
 unfolding answer_of_blocks

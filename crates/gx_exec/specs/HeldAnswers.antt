@@ -1,1 +1,0 @@
--- What an action prints, read from the blocks that a cluster holds.
