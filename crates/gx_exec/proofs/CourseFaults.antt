@@ -26,7 +26,7 @@ use Rattle.gx_exec.specs.Courses.{Course, fault_of_phase, forced, forced_all, jo
 use Rattle.gx_exec.specs.Engines.{AreQuiet, IsSteady, MayForce}
 use Rattle.gx_exec.proofs.CourseRuns.{front-same, joined-front}
 use Rattle.gx_exec.proofs.FreshStatements.{fresh-result}
-use Rattle.gx_exec.proofs.PhaseOrder.{demanded-added, demanded-earlier, front, nodes_from, phases-are, recipes-after}
+use Rattle.gx_exec.proofs.PhaseOrder.{demanded-added, demanded-earlier, fresh-front, nodes_from, phases-are, recipes-after}
 use Rattle.gx_exec.proofs.ModelFaults.{model-fault}
 use Rattle.gx_exec.proofs.QuietPlans.{quiet-fault}
 
@@ -130,7 +130,7 @@ module _ (e : PlannedWorld) (setting : IsSetting e.world e.planned) (s : ℕ) (m
   fresh-fault quiet fresh =
       let demanded = map (λ r. option_to_list (node_of q r)) (demanded_by st) in
       let own = nodes_from (length p.lineage.nodes) (length (own_kinds st)) in
-      let is_front : IsFrontOf p q = front e setting s may fresh in
+      let is_front : IsFrontOf p q = fresh-front e setting s may fresh in
       phases-fault w s (phases_of w.script q s) q
       ∙ ap (first_given (fault_of_phase w q s)) (phases-are e setting s may fresh)
       ∙ first_given-append (fault_of_phase w q s) own demanded

@@ -16,7 +16,7 @@ use Rattle.gx_exec.specs.Phases.{AreNext}
 use Rattle.gx_exec.proofs.CourseRuns.{OnCourse}
 use Rattle.gx_exec.proofs.FreshStatements.{added-cases, added-here, others-kept}
 use Rattle.gx_exec.proofs.LargerPlans.{work-kept}
-use Rattle.gx_exec.proofs.PhaseOrder.{front, phases-next}
+use Rattle.gx_exec.proofs.PhaseOrder.{fresh-front, phases-next}
 
 -- ---- phase by phase
 
@@ -63,13 +63,13 @@ module _ (e f : PlannedWorld) (s : ℕ) (fresh : was_added e.planned s ≡ false
 
   module _ (setting : IsSetting e.world e.planned) (may : MayForce e s) (steady : IsSteady e) where
     pub after-front : IsFrontOf e.planned f.planned
-    after-front = subst (λ g. IsFrontOf e.planned g.planned) (sym is) (front e setting s may fresh)
+    after-front = subst (λ g. IsFrontOf e.planned g.planned) (sym is) (fresh-front e setting s may fresh)
 
     pub after-next : AreNext f (phases_in f s)
     after-next = subst (λ g. AreNext g (phases_in g s)) (sym is) (phases-next e setting s may fresh steady.quiet)
 
     pub after-contents : (c : State Block) → HoldsWorkOf e c → HoldsWorkOf f c
-    after-contents c contents = subst (λ g. HoldsWorkOf g c) (sym is) (work-kept e.world e.planned (with_number e.world.script e.planned s) setting (front e setting s may fresh) c contents)
+    after-contents c contents = subst (λ g. HoldsWorkOf g c) (sym is) (work-kept e.world e.planned (with_number e.world.script e.planned s) setting (fresh-front e setting s may fresh) c contents)
 
     pub after-added : IsAdded f.planned s
     after-added = subst (λ g. IsAdded g.planned s) (sym is) (added-here e.world.script e.planned s may.from_one setting.plan may.within)

@@ -108,11 +108,11 @@ module _ (e : PlannedWorld) (setting : IsSetting e.world e.planned) (s : ℕ) (m
   abbrev st : TypedStmt
   st = statement_of e.world.script s
 
-  pub front : IsFrontOf e.planned (with_number e.world.script e.planned s)
-  front = added-front script p s may.from_one (fresh-result p s fresh)
+  pub fresh-front : IsFrontOf e.planned (with_number e.world.script e.planned s)
+  fresh-front = added-front script p s may.from_one (fresh-result p s fresh)
 
-  pub plan : IsPlan e.world.script (with_number e.world.script e.planned s)
-  plan = added-plan script p s (record { plan = setting.plan; from_one = may.from_one; within = may.within; named = may.named })
+  pub fresh-plan : IsPlan e.world.script (with_number e.world.script e.planned s)
+  fresh-plan = added-plan script p s (record { plan = setting.plan; from_one = may.from_one; within = may.within; named = may.named })
 
   pub recipes-after : (with_number e.world.script e.planned s).recipes ≡ e.planned.recipes ++ own_recipes s (statement_of e.world.script s)
   recipes-after = recipes-kept script p (own_recipes s st)
@@ -121,7 +121,7 @@ module _ (e : PlannedWorld) (setting : IsSetting e.world e.planned) (s : ℕ) (m
   nodes-after =
       let long : length q.recipes ≡ length p.recipes + length (own_recipes s st) = ap length recipes-after ∙ length-append p.recipes (own_recipes s st) in
       let own : length (own_recipes s st) ≡ length (own_kinds st) = length-map (own_kinds st) (λ k. recipe_of k s) in
-      omega (arith, plan.recipes, setting.plan.recipes, long, own)
+      omega (arith, fresh-plan.recipes, setting.plan.recipes, long, own)
 
   node-of_result : (k : Kind) → node_of q (recipe_of k s) ≡ option_or (own_node (length p.lineage.nodes) k (own_kinds st)) (inherited_node p k (inherits k st))
   node-of_result k =
@@ -148,7 +148,7 @@ module _ (e : PlannedWorld) (setting : IsSetting e.world e.planned) (s : ℕ) (m
 
   earlier-demanded : (r : Recipe) → IsAdded p r.statement → AllByRecursion (λ m. m.0 < length p.lineage.nodes) (option_to_list (node_of q r))
   earlier-demanded r added =
-      subst (λ o. AllByRecursion (λ m. m.0 < length p.lineage.nodes) (option_to_list o)) (sym (front.results r added))
+      subst (λ o. AllByRecursion (λ m. m.0 < length p.lineage.nodes) (option_to_list o)) (sym (fresh-front.results r added))
       (earlier-node r (node_of p r) (setting.plan.nodes r.statement added r.kind))
 
   pub demanded-earlier : (rs : List Recipe) → AllByRecursion (λ r. IsAdded e.planned r.statement) rs
@@ -171,7 +171,7 @@ module _ (e : PlannedWorld) (setting : IsSetting e.world e.planned) (s : ℕ) (m
   pub phases-next : AreQuiet e → AreNext (record { world = e.world; planned = with_number e.world.script e.planned s }) (phases_of e.world.script (with_number e.world.script e.planned s) s)
   phases-next quiet = record {
     at = length p.lineage.nodes;
-    quiet = quiet-kept e.world p q setting front quiet;
+    quiet = quiet-kept e.world p q setting fresh-front quiet;
     order = subst (AreInOrder (length q.lineage.nodes) (length p.lineage.nodes)) (sym phases-are)
         (order-from (length q.lineage.nodes) (length p.lineage.nodes) (length (own_kinds st)) (map (λ r. option_to_list (node_of q r)) (demanded_by st))
         (order-earlier (length q.lineage.nodes) (length p.lineage.nodes + length (own_kinds st)) (map (λ r. option_to_list (node_of q r)) (demanded_by st)) (sym nodes-after)

@@ -1,3 +1,4 @@
+pub mod CourseExamples
 pub mod Courses
 pub mod Engines
 pub mod Phases
