@@ -1,19 +1,20 @@
 -- The least fault of the parts of a statement's vertices is the least of all.
-use Rattle.std.proofs.Common.{◌≡◌, ℕ, zero, suc, ◌+◌, ◌<◌, ◌≤◌, ◌==◌, ◌%◌, Bool, true, false, cond, List, [], ◌∷◌, Option, Some, None, Result, Ok, Err, option_map, refl, sym, ap, ◌∙◌, subst, arith}
+use Rattle.std.proofs.Common.{◌≡◌, ℕ, zero, suc, ◌+◌, ◌<◌, ◌≤◌, ◌==◌, ◌%◌, Bool, true, false, cond, List, [], ◌∷◌, Option, Some, None, Result, Ok, Err, is_some, option_map, refl, sym, ap, ◌∙◌, subst, arith}
 use Rattle.std.proofs.Math.Nat.{mod-lt}
 use Rattle.std.proofs.lemmas.Bool.Decides.{nat_tests}
 use Rattle.std.specs.List.{AllByRecursion, cons_option, range_with_len}
 use Rattle.std.specs.List.Sorted.{IsStrictlySortedBy}
 use Rattle.std.specs.Map.{keys_of}
-use Rattle.std.specs.Option.{IfSome}
+use Rattle.std.specs.Option.{IfSome, option_or}
 use Rattle.std.specs.Ordering.{is_gt, ordering_reverse}
 use Rattle.std.specs.declared.cmp.Ordering.TheVariants.{Less, Greater}
 use Rattle.gx_cuts.specs.Mixing.{mix_of}
+use Rattle.gx_expr.specs.declared.expr.Expr.{Expr}
 use Rattle.gx_gops.specs.Tables.{is_in_part}
 use Rattle.gx_index.specs.Ids.{IsAscending, id_cmp, id_cmp-total}
-use Rattle.gx_model.specs.Graphs.{Vertex}
+use Rattle.gx_model.specs.Graphs.{Vertex, first_row_of}
 use Rattle.gx_model.specs.StmtFaults.{KeyFault, fault_on_vertex, faults_on_vertices, key_fault_if, least_fault}
-use Rattle.gx_model.specs.Values.{vertex_row_result}
+use Rattle.gx_model.specs.Values.{join_row_result, vertex_row_result, vertex_test_result, vertices_in_both}
 use Rattle.gx_model.proofs.LeastFaults.{least_fault-first}
 use Rattle.gx_plan.specs.StmtNodes.{statement_of}
 use Rattle.gx_plan.specs.declared.kind.Kind.{Kind}
@@ -26,11 +27,12 @@ use Rattle.gx_rows.specs.declared.vid.Vid.{Vid}
 use Rattle.gx_types_stmts.specs.declared.typed_stmt.TypedStmt.{TypedStmt}
 use Rattle.gx_types_stmts.specs.declared.typed_stmt.TypedStmt.TheVariants as stmts
 use Rattle.gx_exec_contents.specs.BlockContents.{value_in_part}
-use Rattle.gx_exec_contents.specs.PartContents.{BlockStop, fault_kind, part_of_vertices, stop_on_vertex}
-use Rattle.gx_exec_contents.specs.PhaseFaults.{FaultsAreOfModel, LeastAreFaults, fault_of_stop, key_cmp, least_over, lesser_of}
+use Rattle.gx_exec_contents.specs.PartContents.{BlockStop, fault_kind, part_of_vertices, stop_on_vertex, stop_over_vertices}
+use Rattle.gx_exec_contents.specs.PhaseFaults.{FaultsAreOfModel, LeastAreFaults, OwnFaultsAreOfModel, fault_of_stop, key_cmp, least_over, lesser_of}
 use Rattle.gx_exec_contents.specs.Worlds.{World, value_in}
+use Rattle.gx_exec_contents.proofs.MadeTables.{both-in_part, join_faults-in_part}
 use Rattle.gx_exec_contents.proofs.StatementValues.{value-placed}
-use Rattle.gx_exec_contents.proofs.TableParts.{IsAscending-part}
+use Rattle.gx_exec_contents.proofs.TableParts.{IsAscending-part, IsAscending-passing, below-passing}
 
 -- ---- the least of stops over parts
 
@@ -95,19 +97,10 @@ rest_of_ascending : (v : Vertex) (vertices : List Vertex) → IsAscending (keys_
 unfolding IsStrictlySortedBy
 rest_of_ascending v vertices ascending = (ascending.1, ascending.0)
 
-below-part : (parts i : ℕ) (z : Vid) (vertices : List Vertex) → AllByRecursion (λ y. id_cmp z y ≡ Less) (keys_of vertices) → AllByRecursion (λ y. id_cmp z y ≡ Less) (keys_of (part_of_vertices parts i vertices))
-below-part parts i z [] all = tt
-below-part parts i z (v ∷ vertices) all = by (is_in_part i parts v.0) (below-part parts i z vertices all.1)
-  where
-    by : (b : Bool) → AllByRecursion (λ y. id_cmp z y ≡ Less) (keys_of (part_of_vertices parts i vertices))
-        → AllByRecursion (λ y. id_cmp z y ≡ Less) (keys_of (cond b (v ∷ part_of_vertices parts i vertices) (part_of_vertices parts i vertices)))
-    by true more = (all.0, more)
-    by false more = more
-
 module _ {A : Type 0} (result : Vertex → Result A (Cause × ℕ)) where
   -- the stop of these vertices
   abbrev stop_on : List Vertex → Option BlockStop
-  stop_on vertices = option_map stop_on_vertex (least_fault id_cmp (faults_on_vertices result vertices))
+  stop_on vertices = stop_over_vertices result vertices
 
   stop_on-first : (v : Vertex) (vertices : List Vertex) (e : Cause × ℕ) → IsAscending (keys_of (v ∷ vertices)) → result v ≡ Err e → stop_on (v ∷ vertices) ≡ Some (stop_on_vertex (v.0, e))
   stop_on-first v vertices e ascending is = ap (option_map stop_on_vertex) (least_fault-first result v vertices e ascending is)
@@ -151,7 +144,7 @@ module _ {A : Type 0} (result : Vertex → Result A (Cause × ℕ)) where
           ∙ stop_on-first v (part_of_vertices parts j vertices) e
           (subst (λ b. IsAscending (keys_of (cond b (v ∷ part_of_vertices parts j vertices) (part_of_vertices parts j vertices)))) here (IsAscending-part parts j (v ∷ vertices) ascending)) is)
           (λ j apart. subst (λ b. IfSome (stop_on (cond b (v ∷ part_of_vertices parts j vertices) (part_of_vertices parts j vertices))) (IsBeforeStop (stop_on_vertex (v.0, e)))) (sym apart)
-          (stop_on-above v.0 e (part_of_vertices parts j vertices) (IsAscending-part parts j vertices rest.0) (below-part parts j v.0 vertices rest.1)))
+          (stop_on-above v.0 e (part_of_vertices parts j vertices) (IsAscending-part parts j vertices rest.0) (below-passing (λ y. is_in_part j parts y.0) v.0 vertices rest.1)))
           0 parts (omega arith) (omega (arith, within))
           ∙ sym (stop_on-first v vertices e ascending is)
 
@@ -161,6 +154,27 @@ least-kind : (w : World) → 0 < w.parts → (k : Kind) (st : TypedStmt)
     → least_over (λ j. fault_kind k (value_in_part w j) st) (range_with_len 0 w.parts) ≡ fault_kind k (value_in w) st
 least-kind w some kind.Vertices (stmts.MapVertices g sets) =
     least-of_parts (vertex_row_result sets) w.parts some (value_in w g).vertices (value-placed w some g).ascending
+least-kind w some kind.Vertices (stmts.Filter t condition) =
+    least-of_parts (vertex_test_result condition) w.parts some (value_in w t).vertices (value-placed w some t).ascending
+least-kind w some kind.Vertices (stmts.MapValues t sets) =
+    least-of_parts (vertex_row_result sets) w.parts some (value_in w t).vertices (value-placed w some t).ascending
+least-kind w some kind.Vertices (stmts.InnerJoin t u sets) =
+    let xs : List Vertex = (value_in w t).vertices in
+    let ys : List Vertex = (value_in w u).vertices in
+    ap (λ f. least_over f (range_with_len 0 w.parts)) (λ i j. in_part w.parts sets xs ys j i)
+    ∙ least-of_parts (join_row_result sets ys []) w.parts some (vertices_in_both xs ys) (IsAscending-passing (λ v. is_some (first_row_of ys v.0)) xs (value-placed w some t).ascending)
+  where
+    in_part : (parts : ℕ) (sets : List Expr) (xs ys : List Vertex) (j : ℕ)
+        → stop_over_vertices (join_row_result sets (part_of_vertices parts j ys) []) (vertices_in_both (part_of_vertices parts j xs) (part_of_vertices parts j ys))
+        ≡ stop_over_vertices (join_row_result sets ys []) (part_of_vertices parts j (vertices_in_both xs ys))
+    in_part parts sets xs ys j =
+        ap (stop_over_vertices (join_row_result sets (part_of_vertices parts j ys) [])) (both-in_part parts j ys xs)
+        ∙ join_faults-in_part parts j ys sets [] (vertices_in_both xs ys)
+least-kind w some kind.Vertices (stmts.LeftJoin t u default sets) =
+    let xs : List Vertex = (value_in w t).vertices in
+    let ys : List Vertex = (value_in w u).vertices in
+    ap (λ f. least_over f (range_with_len 0 w.parts)) (λ i j. join_faults-in_part w.parts j ys sets default xs i)
+    ∙ least-of_parts (join_row_result sets ys default) w.parts some xs (value-placed w some t).ascending
 least-kind w some kind.Vertices _ = least-none (range_with_len 0 w.parts)
 least-kind w some kind.Edges _ = least-none (range_with_len 0 w.parts)
 
@@ -175,4 +189,28 @@ fault-again s (Some f) = refl
 -- which is that of the model
 pub faults-are_of_model : FaultsAreOfModel
 faults-are_of_model w s (stmts.MapVertices g sets) = fault-again s (least_fault id_cmp (faults_on_vertices (vertex_row_result sets) (value_in w g).vertices))
+faults-are_of_model w s (stmts.Filter t condition) = fault-again s (least_fault id_cmp (faults_on_vertices (vertex_test_result condition) (value_in w t).vertices))
+faults-are_of_model w s (stmts.MapValues t sets) = fault-again s (least_fault id_cmp (faults_on_vertices (vertex_row_result sets) (value_in w t).vertices))
+faults-are_of_model w s (stmts.InnerJoin t u sets) =
+    fault-again s (least_fault id_cmp (faults_on_vertices (join_row_result sets (value_in w u).vertices []) (vertices_in_both (value_in w t).vertices (value_in w u).vertices)))
+faults-are_of_model w s (stmts.LeftJoin t u default sets) =
+    fault-again s (least_fault id_cmp (faults_on_vertices (join_row_result sets (value_in w u).vertices default) (value_in w t).vertices))
 faults-are_of_model w s _ = refl
+
+given-alone : {X : Type 0} (x : Option X) → option_or x None ≡ x
+given-alone None = refl
+given-alone (Some x) = refl
+
+-- the first fault of a statement's own nodes is that of the model
+pub own-faults_are_of_model : OwnFaultsAreOfModel
+own-faults_are_of_model w s (stmts.MapVertices g sets) =
+    given-alone (option_map (fault_of_stop s) (fault_kind kind.Vertices (value_in w) (stmts.MapVertices g sets))) ∙ sym (faults-are_of_model w s (stmts.MapVertices g sets))
+own-faults_are_of_model w s (stmts.Filter t condition) =
+    given-alone (option_map (fault_of_stop s) (fault_kind kind.Vertices (value_in w) (stmts.Filter t condition))) ∙ sym (faults-are_of_model w s (stmts.Filter t condition))
+own-faults_are_of_model w s (stmts.MapValues t sets) =
+    given-alone (option_map (fault_of_stop s) (fault_kind kind.Vertices (value_in w) (stmts.MapValues t sets))) ∙ sym (faults-are_of_model w s (stmts.MapValues t sets))
+own-faults_are_of_model w s (stmts.InnerJoin t u sets) =
+    given-alone (option_map (fault_of_stop s) (fault_kind kind.Vertices (value_in w) (stmts.InnerJoin t u sets))) ∙ sym (faults-are_of_model w s (stmts.InnerJoin t u sets))
+own-faults_are_of_model w s (stmts.LeftJoin t u default sets) =
+    given-alone (option_map (fault_of_stop s) (fault_kind kind.Vertices (value_in w) (stmts.LeftJoin t u default sets))) ∙ sym (faults-are_of_model w s (stmts.LeftJoin t u default sets))
+own-faults_are_of_model w s _ = refl

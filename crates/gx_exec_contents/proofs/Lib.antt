@@ -1,10 +1,14 @@
 pub mod EndsOfParts
+pub mod EqualEdges
 pub mod GrownPlans
 pub mod JoinedParts
 pub mod LeastOfParts
 pub mod MadeContents
 pub mod MadeStatements
+pub mod MadeTables
+pub mod MovedEdges
 pub mod StatementValues
 pub mod StoppedBlocks
 pub mod StopsOfNodes
 pub mod TableParts
+pub mod ValuesWithoutPlaces

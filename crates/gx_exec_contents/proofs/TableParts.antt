@@ -1,5 +1,5 @@
 -- Parts of tables: look-ups, order, and the table of a part of the rows.
-use Rattle.std.proofs.Common.{◌≡◌, ℕ, Bool, true, false, cond, List, [], ◌∷◌, Option, Some, None, refl, sym, ap, ◌∙◌, subst}
+use Rattle.std.proofs.Common.{◌≡◌, ℕ, Bool, true, false, cond, List, [], ◌∷◌, Option, Some, None, refl, sym, ap, ap₂, ◌∙◌, subst}
 use Rattle.std.specs.Cmp.{Equal-is}
 use Rattle.std.specs.declared.cmp.Ordering.TheVariants.{Less}
 use Rattle.std.specs.List.{AllByRecursion, cons_option, filter, filter_map}
@@ -104,3 +104,60 @@ module _ (h : Vertex → Option (List Value)) where
   IsAscending-with_new_rows [] ascending = ascending
   IsAscending-with_new_rows (v ∷ vertices) ascending =
       ascending_step v.0 (h v) (with_new_rows vertices) (below-with_new_rows v.0 vertices ascending.0) (IsAscending-with_new_rows vertices ascending.1)
+
+-- ---- vertices of a part, by what is known of other vertices of the part
+
+-- at a vertex of the part, a look-up in the part is a look-up in all
+pub look_up-in_part : (parts i : ℕ) (rows : List Vertex) (v : Vid) → is_in_part i parts v ≡ true → first_row_of (part_of_vertices parts i rows) v ≡ first_row_of rows v
+look_up-in_part parts i rows v here = first_row_of-part parts i v rows ∙ ap (λ b. cond b (first_row_of rows v) None) here
+
+-- what agrees on the vertices of a part gives the same there
+pub filter_map-in_part : {X : Type 0} (parts i : ℕ) (f g : Vertex → Option X) → ((v : Vertex) → is_in_part i parts v.0 ≡ true → f v ≡ g v) → (vertices : List Vertex)
+    → filter_map f (part_of_vertices parts i vertices) ≡ filter_map g (part_of_vertices parts i vertices)
+filter_map-in_part parts i f g same [] = refl
+filter_map-in_part parts i f g same (v ∷ vertices) = by (is_in_part i parts v.0) refl (filter_map-in_part parts i f g same vertices)
+  where
+    by : (b : Bool) → is_in_part i parts v.0 ≡ b → filter_map f (part_of_vertices parts i vertices) ≡ filter_map g (part_of_vertices parts i vertices)
+        → filter_map f (cond b (v ∷ part_of_vertices parts i vertices) (part_of_vertices parts i vertices))
+        ≡ filter_map g (cond b (v ∷ part_of_vertices parts i vertices) (part_of_vertices parts i vertices))
+    by true here more = ap₂ (λ u us. cons_option u us) (same v here) more
+    by false there more = more
+
+-- the part of the vertices that pass a test, by a test that agrees with it on the part
+pub part-passing : (parts i : ℕ) (p q : Vertex → Bool) → ((v : Vertex) → is_in_part i parts v.0 ≡ true → q v ≡ p v) → (vertices : List Vertex)
+    → filter q (part_of_vertices parts i vertices) ≡ part_of_vertices parts i (filter p vertices)
+part-passing parts i p q same [] = refl
+part-passing parts i p q same (v ∷ vertices) = by (is_in_part i parts v.0) refl (p v) refl (part-passing parts i p q same vertices)
+  where
+    by : (b : Bool) → is_in_part i parts v.0 ≡ b → (t : Bool) → p v ≡ t
+        → filter q (part_of_vertices parts i vertices) ≡ part_of_vertices parts i (filter p vertices)
+        → filter q (cond b (v ∷ part_of_vertices parts i vertices) (part_of_vertices parts i vertices))
+        ≡ part_of_vertices parts i (cond t (v ∷ filter p vertices) (filter p vertices))
+    by true here true passes more = rw (same v here ∙ passes, here) (ap (λ vs. v ∷ vs) more)
+    by true here false fails more = rw (same v here ∙ fails) more
+    by false there true passes more = rw there more
+    by false there false fails more = more
+
+module _ (p : Vertex → Bool) where
+  -- what is below all vertices is below those that pass
+  pub below-passing : (z : Vid) (vertices : List Vertex) → AllByRecursion (λ y. id_cmp z y ≡ Less) (keys_of vertices) → AllByRecursion (λ y. id_cmp z y ≡ Less) (keys_of (filter p vertices))
+  below-passing z [] all = tt
+  below-passing z (v ∷ vertices) all = by (p v) (below-passing z vertices all.1)
+    where
+      by : (b : Bool) → AllByRecursion (λ y. id_cmp z y ≡ Less) (keys_of (filter p vertices))
+          → AllByRecursion (λ y. id_cmp z y ≡ Less) (keys_of (cond b (v ∷ filter p vertices) (filter p vertices)))
+      by true more = (all.0, more)
+      by false more = more
+
+  ascending_by : (v : Vertex) (vertices : List Vertex) (b : Bool) → AllByRecursion (λ y. id_cmp v.0 y ≡ Less) (keys_of (filter p vertices)) → IsAscending (keys_of (filter p vertices))
+      → IsAscending (keys_of (cond b (v ∷ filter p vertices) (filter p vertices)))
+  unfolding IsStrictlySortedBy
+  ascending_by v vertices true below more = (below, more)
+  ascending_by v vertices false below more = more
+
+  -- vertices that pass ascend as before
+  pub IsAscending-passing : (vertices : List Vertex) → IsAscending (keys_of vertices) → IsAscending (keys_of (filter p vertices))
+  unfolding IsStrictlySortedBy
+  IsAscending-passing [] ascending = ascending
+  IsAscending-passing (v ∷ vertices) ascending =
+      ascending_by v vertices (p v) (below-passing v.0 vertices ascending.0) (IsAscending-passing vertices ascending.1)

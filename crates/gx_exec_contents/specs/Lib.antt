@@ -5,4 +5,5 @@ pub mod Examples
 pub mod MadeBlocks
 pub mod PartContents
 pub mod PhaseFaults
+pub mod PlainValues
 pub mod Worlds

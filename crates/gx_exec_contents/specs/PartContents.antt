@@ -1,12 +1,12 @@
 -- The parts of tables and of edges, and what a block holds of them.
-use Rattle.std.specs.Prelude.{ℕ, ◌==◌, List, [], ◌∷◌, filter, Option, None, Some, option_map}
+use Rattle.std.specs.Prelude.{ℕ, ◌==◌, List, [], ◌∷◌, filter, Option, None, Some, option_map, Result}
 use Rattle.std.specs.Option.{option_or}
 use Rattle.gx_epart.specs.Edges.{edge_order_of}
 use Rattle.gx_gops.specs.Tables.{is_in_part}
 use Rattle.gx_index.specs.Ids.{id_cmp}
 use Rattle.gx_model.specs.Graphs.{Graph, Vertex, plain_edges}
 use Rattle.gx_model.specs.StmtFaults.{KeyFault, faults_on_vertices, least_fault}
-use Rattle.gx_model.specs.Values.{vertex_row_result}
+use Rattle.gx_model.specs.Values.{join_row_result, vertex_row_result, vertex_test_result, vertices_in_both}
 use Rattle.gx_plan.specs.declared.kind.Kind.{Kind}
 use Rattle.gx_plan.specs.declared.kind.Kind.TheVariants as kind
 use Rattle.gx_rows.specs.Order.{Edge}
@@ -58,10 +58,20 @@ held_kind kind.Edges parts i g = Edges (edge_order_of (part_of_edges i g.edges))
 abbrev pub stop_on_vertex : KeyFault Vid → BlockStop
 stop_on_vertex f = record { key = row_key.Vertex f.0; expr = f.1.1; cause = f.1.0 }
 
+-- the fault of what computes this on each of these vertices
+abbrev pub stop_over_vertices : {A : Type 0} → (Vertex → Result A (Cause × ℕ)) → List Vertex → Option BlockStop
+stop_over_vertices result vertices = option_map stop_on_vertex (least_fault id_cmp (faults_on_vertices result vertices))
+
 -- the fault of the own node of this kind, where the statements that it names have these values
 abbrev pub fault_kind : Kind → (ℕ → Graph ℕ) → TypedStmt → Option BlockStop
-fault_kind kind.Vertices values (stmts.MapVertices g sets) =
-    option_map stop_on_vertex (least_fault id_cmp (faults_on_vertices (vertex_row_result sets) (values g).vertices))
+fault_kind kind.Vertices values (stmts.MapVertices g sets) = stop_over_vertices (vertex_row_result sets) (values g).vertices
+fault_kind kind.Vertices values (stmts.Filter t condition) =
+    stop_over_vertices (vertex_test_result condition) (values t).vertices
+fault_kind kind.Vertices values (stmts.MapValues t sets) = stop_over_vertices (vertex_row_result sets) (values t).vertices
+fault_kind kind.Vertices values (stmts.InnerJoin t u sets) =
+    stop_over_vertices (join_row_result sets (values u).vertices []) (vertices_in_both (values t).vertices (values u).vertices)
+fault_kind kind.Vertices values (stmts.LeftJoin t u default sets) =
+    stop_over_vertices (join_row_result sets (values u).vertices default) (values t).vertices
 fault_kind _ values _ = None
 
 -- ---- stops

@@ -10,7 +10,7 @@ use Rattle.gx_lineage.specs.declared.block_id.BlockId.{BlockId}
 use Rattle.gx_lineage.specs.declared.node_id.NodeId.{NodeId}
 use Rattle.gx_plan.specs.Plans.{Planned, recipe_at}
 use Rattle.gx_model.specs.StmtFaults.{fault_of_stmt}
-use Rattle.gx_plan.specs.StmtNodes.{statement_of}
+use Rattle.gx_plan.specs.StmtNodes.{own_kinds, statement_of}
 use Rattle.gx_plan.specs.declared.kind.Kind.TheVariants as kind
 use Rattle.gx_plan.specs.declared.recipe.Recipe.{Recipe}
 use Rattle.gx_rows.specs.Order.{edge_cmp}
@@ -20,7 +20,7 @@ use Rattle.gx_rows.specs.declared.row_key.RowKey.{RowKey}
 use Rattle.gx_rows.specs.declared.row_key.RowKey.TheVariants.{Vertex, Edge}
 use Rattle.gx_types_stmts.specs.declared.typed_stmt.TypedStmt.{TypedStmt}
 use Rattle.gx_exec_contents.specs.BlockContents.{fault_by, stop_of}
-use Rattle.gx_exec_contents.specs.PartContents.{BlockStop, fault_kind}
+use Rattle.gx_exec_contents.specs.PartContents.{BlockStop, fault_kind, first_given}
 use Rattle.gx_exec_contents.specs.Worlds.{IsSetting, IsWorld, World, placed_values, value_in}
 
 -- vertices by their identifiers, edges in edge order, and vertices before edges
@@ -60,6 +60,11 @@ LeastAreFaults = (w : World) → IsWorld w → (r : Recipe) → least_over (faul
 abbrev pub FaultsAreOfModel : Type 0
 FaultsAreOfModel = (w : World) (s : ℕ) (st : TypedStmt)
     → fault_of_stmt (placed_values w) s st ≡ option_map (fault_of_stop s) (fault_kind kind.Vertices (value_in w) st)
+
+-- the first fault of a statement's own nodes is the fault of the statement
+abbrev pub OwnFaultsAreOfModel : Type 0
+OwnFaultsAreOfModel = (w : World) (s : ℕ) (st : TypedStmt)
+    → first_given (λ k. option_map (fault_of_stop s) (fault_kind k (value_in w) st)) (own_kinds st) ≡ fault_of_stmt (placed_values w) s st
 
 -- ---- by the blocks of a node
 

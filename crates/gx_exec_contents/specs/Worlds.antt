@@ -1,9 +1,11 @@
 -- What a run of a script is given, and the value of each statement with the places of edges.
-use Rattle.std.specs.Prelude.{◌≡◌, ℕ, ◌<◌, true, false, Bool, All, List, map}
+use Rattle.std.specs.Prelude.{◌≡◌, ◌≢◌, ℕ, ◌<◌, true, false, Bool, All, List, map, ⊤}
 use Rattle.gx_cuts.specs.Places.{place_of}
 use Rattle.gx_cuts.specs.declared.cut.Cut.{Cut}
+use Rattle.gx_cuts.specs.declared.cut.Cut.TheVariants.{Rows}
 use Rattle.gx_lineage.specs.Lineage.{IsSound}
-use Rattle.gx_model.specs.Graphs.{Graph}
+use Rattle.gx_model.specs.Graphs.{Graph, Placement}
+use Rattle.gx_model.specs.ScriptMeaning.{Loaded}
 use Rattle.gx_model.specs.Values.{LoadedRows, value_named, values_of_script}
 use Rattle.gx_plan.specs.PlanInvariant.{IsPlan}
 use Rattle.gx_plan.specs.PlanLaws.{HasSorts}
@@ -26,16 +28,24 @@ pub record World : Type 0 where
 abbrev pub place_in : World → ℕ → Edge → ℕ
 place_in w n e = place_of w.cut w.parts e.0.0 e.1.0 n
 
+-- the parts of edges: of a loaded one by its ordinal, of one that a cut places anew by its ends alone
+abbrev pub places_in : World → Placement ℕ
+places_in w = record { of_loaded = place_in w; of_cut = λ cut e. place_of cut w.parts e.0.0 e.1.0 0 }
+
 abbrev pub stmts_of : World → List TypedStmt
 stmts_of w = map (λ c. c.stmt) w.script
 
 -- the value of each statement, where each edge has its part
 unfoldable pub placed_values : World → List (Graph ℕ)
-placed_values w = values_of_script (place_in w) w.loads (stmts_of w)
+placed_values w = values_of_script (places_in w) w.loads (stmts_of w)
 
 -- the value of statement s
 abbrev pub value_in : World → ℕ → Graph ℕ
 value_in w s = value_named (placed_values w) s
+
+-- the script with its loaded rows, as the plain model knows it: without parts and places
+abbrev pub loaded_in : World → Loaded
+loaded_in w = record { checked = w.script; loads = w.loads }
 
 -- ---- what is asked of a world and a plan
 
@@ -46,7 +56,14 @@ is_modelled (stmts.Edges file) = true
 is_modelled (stmts.EdgeList file oriented) = true
 is_modelled (stmts.Graph t e default) = true
 is_modelled (stmts.FromEdges e row) = true
+is_modelled (stmts.Partition g cut) = true
 is_modelled (stmts.MapVertices g sets) = true
+is_modelled (stmts.Filter t condition) = true
+is_modelled (stmts.MapValues t sets) = true
+is_modelled (stmts.Minus t u) = true
+is_modelled (stmts.Diff t u) = true
+is_modelled (stmts.InnerJoin t u sets) = true
+is_modelled (stmts.LeftJoin t u default sets) = true
 is_modelled (stmts.PrintVertices g) = true
 is_modelled (stmts.PrintEdges g) = true
 is_modelled (stmts.PrintTable t) = true
@@ -55,6 +72,11 @@ is_modelled (stmts.CountEdges g) = true
 is_modelled (stmts.CountTable t) = true
 is_modelled _ = false
 
+-- an edge that a statement moves has its place by its ends alone, since it has no ordinal
+abbrev pub MovesByEnds : TypedStmt → Type 0
+MovesByEnds (stmts.Partition g cut) = cut ≢ Rows
+MovesByEnds _ = ⊤
+
 -- a script that may be run: it names earlier statements of the right sorts, and the model has their values
 pub record IsWorld (w : World) : Type 0 where
   pub some_parts : 0 < w.parts
@@ -62,6 +84,7 @@ pub record IsWorld (w : World) : Type 0 where
   pub named : All NamesAreUsed w.script
   pub sorts : HasSorts w.script
   pub modelled : (s : ℕ) → is_modelled (statement_of w.script s) ≡ true
+  pub by_ends : (s : ℕ) → MovesByEnds (statement_of w.script s)
 
 -- a plan of that script, in as many parts
 pub record IsSetting (w : World) (p : Planned) : Type 0 where

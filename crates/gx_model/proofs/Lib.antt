@@ -5,3 +5,4 @@ pub mod Ordered
 pub mod Tables
 pub mod UsedStatements
 pub mod ValueOfStatement
+pub mod WithoutPlaces

@@ -2,6 +2,7 @@
 use Rattle.std.specs.Prelude.{◌≡◌, ℕ, ◌+◌, pos, List, [], ◌∷◌, ◌++◌, map, flat_map, filter_map, Option, option_map, refl}
 use Rattle.std.specs.BTreeSet.{insert_key}
 use Rattle.std.specs.Map.{lookup}
+use Rattle.gx_cuts.specs.declared.cut.Cut.{Cut}
 use Rattle.gx_rows.specs.Order.{Edge}
 use Rattle.gx_rows.specs.declared.value.Value.{Value}
 use Rattle.gx_rows.specs.declared.value.Value.TheVariants.{Int}
@@ -52,6 +53,25 @@ abbrev pub placed_from : {Place : Type 0} → (ℕ → Edge → Place) → ℕ �
 placed_from place n [] = []
 placed_from place n (e ∷ edges) = (place n e, e) ∷ placed_from place (n + 1) edges
 
+-- Where edges are placed: a loaded edge, with its ordinal in its file, and an edge that a cut places
+-- anew, which knows no ordinal.
+pub record Placement (Place : Type 0) : Type 0 where
+  pub of_loaded : ℕ → Edge → Place
+  pub of_cut : Cut → Edge → Place
+
+-- the plain model knows no places
+abbrev pub unplaced : Placement (Unit {0})
+unplaced = record { of_loaded = λ n e. tt; of_cut = λ cut e. tt }
+
+-- The edges, each placed anew. The key of an edge is its source, its destination and its row, so edges
+-- of equal keys are equal, and go to one place: which of them stands first makes no other list.
+abbrev pub placed_anew : {Place New : Type 0} → (Edge → New) → List (Place × Edge) → List (New × Edge)
+placed_anew place edges = map (λ e. (place e.1, e.1)) edges
+
+-- a value, where nothing is known of places
+abbrev pub without_places : {Place : Type 0} → Graph Place → Graph (Unit {0})
+without_places g = record { vertices = g.vertices; edges = placed_anew (λ e. tt) g.edges }
+
 -- the edges without their places
 abbrev pub plain_edges : {Place : Type 0} → List (Place × Edge) → List Edge
 plain_edges edges = map (λ e. e.1) edges
@@ -97,3 +117,13 @@ graph_of-example : (graph_of three_rows one_edge (Int (pos 0) ∷ [])).vertices
     ∷ []
 unfolding three_rows one_edge
 graph_of-example = refl
+
+-- placed by their sources: the edge from 1 moves from place 7 to 1, and is the same edge
+placed_anew-example : placed_anew (λ e. e.0) one_edge ≡ (record { 0 = pos 1 }, (record { 0 = pos 1 }, record { 0 = pos 2 }, [])) ∷ []
+unfolding one_edge
+placed_anew-example = refl
+
+without_places-example : without_places (record { vertices = three_rows; edges = one_edge })
+    ≡ record { vertices = three_rows; edges = (tt, (record { 0 = pos 1 }, record { 0 = pos 2 }, [])) ∷ [] }
+unfolding one_edge
+without_places-example = refl

@@ -5,4 +5,5 @@ pub mod Graphs
 pub mod NamesUsed
 pub mod ScriptMeaning
 pub mod StmtFaults
+pub mod TableExamples
 pub mod Values

@@ -8,7 +8,7 @@ use Rattle.gx_print.specs.declared.status.Status.{Status}
 use Rattle.gx_print.specs.declared.status.Status.TheVariants as status
 use Rattle.gx_types_stmts.specs.declared.checked_stmt.CheckedStmt.{CheckedStmt}
 use Rattle.gx_types_stmts.specs.declared.typed_stmt.TypedStmt.{TypedStmt}
-use Rattle.gx_model.specs.Graphs.{Graph}
+use Rattle.gx_model.specs.Graphs.{Graph, unplaced}
 use Rattle.gx_model.specs.DataFiles.{rows_of_script}
 use Rattle.gx_model.specs.NamesUsed.{stmts_used}
 use Rattle.gx_model.specs.ActionAnswers.{Answer, answer_of_stmt}
@@ -25,7 +25,7 @@ stmts_in l = map (λ c. c.stmt) l.checked
 
 -- the values of all names, without places
 abbrev pub plain_values : Loaded → List (Graph (Unit {0}))
-plain_values l = values_of_script (λ n e. tt) l.loads (stmts_in l)
+plain_values l = values_of_script unplaced l.loads (stmts_in l)
 
 -- ---- the fault of an action
 

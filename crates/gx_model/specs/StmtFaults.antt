@@ -11,7 +11,7 @@ use Rattle.gx_index.specs.Ids.{id_cmp}
 use Rattle.gx_types_stmts.specs.declared.typed_stmt.TypedStmt.{TypedStmt}
 use Rattle.gx_types_stmts.specs.declared.typed_stmt.TypedStmt.TheVariants as stmts
 use Rattle.gx_model.specs.Graphs.{Graph, Vertex}
-use Rattle.gx_model.specs.Values.{value_named, vertex_row_result}
+use Rattle.gx_model.specs.Values.{join_row_result, value_named, vertex_row_result, vertex_test_result, vertices_in_both}
 
 -- what has no value, and why: a key with the cause and the number of the node
 abbrev pub KeyFault : Type 0 → Type 0
@@ -41,11 +41,23 @@ fault_on_vertex s f = record { statement = s; key = row_key.Vertex f.0; expr = f
 
 -- ---- statements
 
+-- the fault of statement s, which computes this on each of these vertices
+abbrev pub fault_over_vertices : {A : Type 0} → ℕ → (Vertex → Result A (Cause × ℕ)) → List Vertex → Option Fault
+fault_over_vertices s result vertices = option_map (fault_on_vertex s) (least_fault id_cmp (faults_on_vertices result vertices))
+
 -- the fault of statement s, by the values of those before it
 abbrev pub fault_of_stmt : {Place : Type 0} → List (Graph Place) → ℕ → TypedStmt → Option Fault
 fault_of_stmt values s (stmts.MapVertices g sets) =
-    option_map (fault_on_vertex s)
-    (least_fault id_cmp (faults_on_vertices (vertex_row_result sets) (value_named values g).vertices))
+    fault_over_vertices s (vertex_row_result sets) (value_named values g).vertices
+fault_of_stmt values s (stmts.Filter t condition) =
+    fault_over_vertices s (vertex_test_result condition) (value_named values t).vertices
+fault_of_stmt values s (stmts.MapValues t sets) =
+    fault_over_vertices s (vertex_row_result sets) (value_named values t).vertices
+fault_of_stmt values s (stmts.InnerJoin t u sets) =
+    fault_over_vertices s (join_row_result sets (value_named values u).vertices [])
+    (vertices_in_both (value_named values t).vertices (value_named values u).vertices)
+fault_of_stmt values s (stmts.LeftJoin t u default sets) =
+    fault_over_vertices s (join_row_result sets (value_named values u).vertices default) (value_named values t).vertices
 fault_of_stmt values s _ = None
 
 -- the least key counts, in whatever order the faults are
