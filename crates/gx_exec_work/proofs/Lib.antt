@@ -1,1 +1,3 @@
-pub mod FittingInputs
+pub mod Contents
+pub mod BlocksOfKernels
+pub mod Statements
