@@ -1,4 +1,5 @@
 pub mod Fronts
+pub mod NamedSorts
 pub mod NamedStatements
 pub mod Nodes
 pub mod OneNode

@@ -1,9 +1,11 @@
 -- Laws of plans.
-use Rattle.std.specs.Prelude.{◌≡◌, ℕ, ◌<◌, ◌≤◌, ◌-◌, ◌||◌, Bool, true, None, Some, List, get_or, is_some}
+use Rattle.std.specs.Prelude.{◌≡◌, ◌≢◌, ℕ, ◌<◌, ◌≤◌, ◌-◌, ◌||◌, Bool, true, None, Some, List, get_or, is_some, slice_get, ⊤}
 use Rattle.std.specs.List.{AllByRecursion}
+use Rattle.gx_cuts.specs.declared.cut.Cut.TheVariants.{Rows}
 use Rattle.gx_lineage.specs.Lineage.{KeepsInputs}
 use Rattle.gx_types_stmts.specs.declared.checked_stmt.CheckedStmt.{CheckedStmt}
 use Rattle.gx_types_stmts.specs.declared.typed_stmt.TypedStmt.{TypedStmt}
+use Rattle.gx_types_stmts.specs.declared.typed_stmt.TypedStmt.TheVariants as stmts
 use Rattle.gx_plan.specs.PlanInvariant.{IsFrontOf, IsPlan, MayAdd, Owns, is_own}
 use Rattle.gx_plan.specs.Plans.{Planned, with_number}
 use Rattle.gx_plan.specs.Recipes.{recipe_of}
@@ -53,3 +55,13 @@ pub record AreOwned (script : List CheckedStmt) : Type 0 where
 
 abbrev pub SortedAreOwned : Type 0
 SortedAreOwned = (script : List CheckedStmt) → HasSorts script → AreOwned script
+
+-- ---- cuts
+
+-- `partition` places edges by their ends, and not by their position in a file
+abbrev pub MovesByEnds : TypedStmt → Type 0
+MovesByEnds (stmts.Partition g cut) = cut ≢ Rows
+MovesByEnds _ = ⊤
+
+abbrev pub MoveByEnds : List CheckedStmt → Type 0
+MoveByEnds script = (i : ℕ) (t : CheckedStmt) → slice_get script i ≡ Some t → MovesByEnds t.stmt

@@ -3,7 +3,9 @@
 ghost use Rattle.std.specs.Prelude.{◌≡◌, ◌<◌, ◌≤◌, ◌-◌, IfOk, None, false, get_or, length, map, true};
 ghost use Rattle.std.specs.Option.{option_to_list};
 ghost use Rattle.gx_lineage.specs.Lineage.{IsSound};
+ghost use Rattle.gx_types.specs.SoundStmts.{AreRun};
 ghost use Rattle.gx_plan.specs.PlanInvariant.{HasNodeFor, IsPlan};
+ghost use Rattle.gx_plan.specs.PlanLaws.{HasSorts, MoveByEnds};
 ghost use Rattle.gx_plan.specs.Plans.{IsAdded, empty_plan, node_of, phases_of, recipe_at};
 ghost use Rattle.gx_plan.specs.Recipes.{recipe_of};
 ghost use Rattle.gx_plan.specs.StmtNodes.{phase_recipes, statement_of};
@@ -108,12 +110,18 @@ impl Plan {
     }
 
     /// Tells laws of each plan: its nodes are fed by what their recipes read, its results are at the
-    /// nodes of their owners, and its lineage is sound. It does nothing.
+    /// nodes of their owners, and its lineage is sound; and of its script: what a statement reads or
+    /// takes over is made by an earlier one, all statements are run, and `partition` places edges by
+    /// their ends. It does nothing.
     pub fn nodes_are_fed(&self)
         ensures plan { IsPlan self.now.script self.now.planned }
         ensures sound { IsSound self.now.planned.lineage }
+        ensures sorts { HasSorts self.now.script }
+        ensures run { AreRun self.now.script }
+        ensures by_ends { MoveByEnds self.now.script }
     {
         let _len = self.dag.len();
+        self.typed.statements_are_sound();
     }
 
     /// Whether statement `s`, counted from 1, was added.

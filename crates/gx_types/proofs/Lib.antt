@@ -1,5 +1,8 @@
 mod BuiltLemmas
+pub mod CutWords
 mod ScriptWalk
+mod SoundScripts
+mod TypedBodies
 mod UseLemmas
 mod MarkLemmas
 mod NeedLemmas

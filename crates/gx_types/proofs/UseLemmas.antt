@@ -4,7 +4,7 @@ use Rattle.gx_types.specs.Needs.{UseEarlier}
 use Rattle.gx_types_stmts.specs.KnownNames.{IsEarlier}
 use Rattle.gx_types_stmts.specs.declared.checked_stmt.CheckedStmt.{CheckedStmt}
 
-pushed-at : {A : Type 0} (xs : List A) (x : A) (i : ℕ) (y : A) → slice_get (xs ++ x ∷ []) i ≡ Some y → (slice_get xs i ≡ Some y) ⊎ ((i ≡ length xs) × (y ≡ x))
+pub pushed-at : {A : Type 0} (xs : List A) (x : A) (i : ℕ) (y : A) → slice_get (xs ++ x ∷ []) i ≡ Some y → (slice_get xs i ≡ Some y) ⊎ ((i ≡ length xs) × (y ≡ x))
 pushed-at [] x zero y e = inr (refl, cc)
 pushed-at [] x (suc i) y e = cc
 pushed-at (a ∷ xs) x zero y e = inl e

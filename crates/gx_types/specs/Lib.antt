@@ -2,4 +2,6 @@ pub mod Built
 pub mod Marks
 pub mod Needs
 pub mod ScriptTyping
+pub mod SoundStmts
+pub mod StmtSorts
 pub mod TypeStops

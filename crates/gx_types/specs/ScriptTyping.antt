@@ -27,11 +27,14 @@ typed_statements k (s ∷ rest) =
 abbrev pub typed_statements_of : List Stmt → Result (List CheckedStmt) TypeStop
 typed_statements_of stmts = typed_statements no_context stmts
 
--- a script: the number of its statements, each statement, and whether all are run
+-- each statement, and whether all are run
+abbrev pub checked_statements : List Stmt → Result (List CheckedStmt) TypeStop
+checked_statements stmts = typed_statements_of stmts >>= λ ts. built_statements 1 stmts >>= λ _. Ok ts
+
+-- a script: the number of its statements, and each of them
 abbrev pub typing_of : List Stmt → Result (List CheckedStmt) TypeStop
 typing_of stmts =
-    if nat_le (length stmts) (most_of limit.Statements) then
-    (typed_statements_of stmts >>= λ ts. built_statements 1 stmts >>= λ _. Ok ts)
+    if nat_le (length stmts) (most_of limit.Statements) then checked_statements stmts
     else Err (stop.Limit limit.Statements)
 
 -- each script that some text spells has few nodes and short texts

@@ -1,5 +1,5 @@
-//! Statements that are not run yet. To have one run, delete it from the list here and in
-//! specs/Built.antt.
+//! Statements that are not run yet. To have one run, delete it from the list here and from
+//! `is_built` of specs/Built.antt, and turn its line in `is_run` there.
 
 ghost use Rattle.std.specs.Prelude.{◌≡◌, ◌≤◌, length};
 ghost use Rattle.gx_types.specs.Built as built;
@@ -39,13 +39,11 @@ fn is_built(stmt: &Stmt) -> bool
 {
     match stmt {
         Stmt::Reverse { .. } | Stmt::Mask { .. } | Stmt::Subgraph { .. } => false,
-        Stmt::GroupEdges { .. } | Stmt::Partition { .. } => false,
+        Stmt::GroupEdges { .. } => false,
         Stmt::MapEdges { .. } | Stmt::MapTriplets { .. } => false,
         Stmt::JoinVertices { .. } | Stmt::OuterJoin { .. } => false,
         Stmt::Aggregate { .. } | Stmt::InDegrees { .. } | Stmt::OutDegrees { .. } => false,
         Stmt::Degrees { .. } | Stmt::Neighbours { .. } | Stmt::Pregel { .. } => false,
-        Stmt::Filter { .. } | Stmt::MapValues { .. } | Stmt::Minus { .. } => false,
-        Stmt::Diff { .. } | Stmt::InnerJoin { .. } | Stmt::LeftJoin { .. } => false,
         Stmt::PrintTriplets { .. } => false,
         _ => true,
     }

@@ -32,16 +32,14 @@ pub fn check(alloc: Global, script: &Script) -> Result<Typed, TypeStop>
     if statements.len() as u64 > LimitKind::Statements.most() {
         return Err(TypeStop::Limit(LimitKind::Statements));
     }
-    let typed = type_statements(alloc, statements)?;
-    check_built(statements)?;
-    Ok(typed)
+    type_statements(alloc, statements)
 }
 
-// Checks statements in order.
+// Checks statements in order, and then whether all are run.
 fn type_statements(alloc: Global, statements: &Items<Stmt>) -> Result<Typed, TypeStop>
     requires few { length statements.now ≤ 1000 }
     requires typable { All IsTypable statements.now }
-    ensures { TypeReturns result (typing.typed_statements_of statements.now) }
+    ensures { TypeReturns result (typing.checked_statements statements.now) }
 {
     let mut known = Known::new(alloc)?;
     let mut typed = Vec::new(alloc);
@@ -49,6 +47,7 @@ fn type_statements(alloc: Global, statements: &Items<Stmt>) -> Result<Typed, Typ
         let next = type_next(alloc, &mut known, stmt)?;
         append(&mut typed, next)?;
     }
+    check_built(statements)?;
     Ok(Typed::of(typed))
 }
 

@@ -4,14 +4,16 @@ ghost use Rattle.std.specs.Prelude.{◌≡◌, ◌-◌, ◌<◌, ◌≤◌, ◌^
 ghost use Rattle.std.specs.Prelude.{vec_len};
 ghost use Rattle.std.specs.Option.{option_copied};
 ghost use Rattle.gx_types.specs.Needs.{NamesAreUsed, UseEarlier};
+ghost use Rattle.gx_types.specs.SoundStmts.{AreRun, HasSoundStmts, HaveWrittenCuts};
+ghost use Rattle.gx_types.specs.StmtSorts.{HasNamedSorts};
 ghost use Rattle.gx_types_stmts.specs.StmtNumbers.{named_numbers};
 
 use gx_rows::RowType;
 use gx_types_stmts::{CheckedStmt, SharedType, TypedStmt};
 use std::marker::Model;
 
-/// A script that is well typed. Contracts see it as the list of its statements, each of which uses
-/// those that it names, and earlier ones alone.
+/// A script that is well typed. Contracts see it as the list of its statements, each of which is
+/// run, and uses those that it names: earlier ones that make things of the right sorts.
 #[derive(Drop)]
 pub struct Typed {
     pub(crate) statements: Vec<CheckedStmt>,
@@ -20,6 +22,8 @@ pub struct Typed {
 impl Model for Typed {
     ghost use Rattle.std.specs.Prelude.{All, List, ◌<◌, ◌^◌, vec_len};
     ghost use Rattle.gx_types.specs.Needs.{NamesAreUsed, UseEarlier};
+    ghost use Rattle.gx_types.specs.SoundStmts.{AreRun, HaveWrittenCuts};
+    ghost use Rattle.gx_types.specs.StmtSorts.{HasNamedSorts};
     ghost use Rattle.gx_types_stmts.specs.declared.checked_stmt.CheckedStmt.{CheckedStmt as Statement};
     ghost use Rattle.gx_types_stmts.specs.contracts.checked_stmt.CheckedStmt as statement;
     ghost use Rattle.std.specs.Coded.{codes};
@@ -34,6 +38,9 @@ impl Model for Typed {
       few : vec_len t.statements < 2 ^ 32;
       earlier : UseEarlier t.statements.items;
       named : All NamesAreUsed t.statements.items;
+      sorts : HasNamedSorts t.statements.items;
+      run : AreRun t.statements.items;
+      cuts : HaveWrittenCuts t.statements.items;
     } };
 }
 
@@ -41,8 +48,7 @@ impl Typed {
     /// The script of these statements. It takes no memory.
     pub(crate) fn of(statements: Vec<CheckedStmt>) -> Typed
         requires few { vec_len statements < 2 ^ 32 }
-        requires earlier { UseEarlier statements.items }
-        requires named { All NamesAreUsed statements.items }
+        requires sound { HasSoundStmts statements.items }
         ensures { result ≡ statements.items }
     {
         Typed { statements }
@@ -56,11 +62,15 @@ impl Typed {
         self.statements.len() as u32
     }
 
-    /// Tells a law of each script that is well typed: its statements use exactly those that they name,
-    /// which are earlier ones. It does nothing.
-    pub fn uses_are_earlier(&self)
+    /// Tells laws of each script that is well typed: its statements use exactly those that they name,
+    /// which are earlier ones of the right sorts; all are run; and the cut of `partition` is one that
+    /// a script can write. It does nothing.
+    pub fn statements_are_sound(&self)
         ensures earlier { UseEarlier self.now }
         ensures named { All NamesAreUsed self.now }
+        ensures sorts { HasNamedSorts self.now }
+        ensures run { AreRun self.now }
+        ensures cuts { HaveWrittenCuts self.now }
     {
         let _statements = &self.statements;
     }

@@ -4,7 +4,7 @@
 use super::support::assert_each;
 use std::test::Fail;
 
-const NAMES: [(&str, &str); 22] = [
+const NAMES: [(&str, &str); 23] = [
     ("vertices s from \"f\" ();", "5 NameTaken"),
     (
         "graph g = s, e default (0, \"\", true, ids());",
@@ -31,6 +31,7 @@ const NAMES: [(&str, &str); 22] = [
     ("mask m = z by s;", "5 NameUnknown"),
     ("mask m = g by e;", "5 WrongSort"),
     ("mask m = g by g;", "5 NotBuilt"),
+    ("partition h = g by canonical;", "ok 5"),
 ];
 
 const COLUMNS: [(&str, &str); 16] = [
@@ -179,7 +180,7 @@ const SAME_COLUMNS: [(&str, &str); 14] = [
         "joinvertices h = g, u (t: v.t, a: 1, b: o.x, l: v.l);",
         "5 ColumnsDiffer",
     ),
-    ("diff r = s, u;", "5 NotBuilt"),
+    ("diff r = s, u;", "ok 5"),
     (
         "vertices r from \"f\" (a: int); diff q = s, r;",
         "6 ColumnsDiffer",
@@ -192,7 +193,7 @@ const SAME_COLUMNS: [(&str, &str); 14] = [
         "vertices r from \"f\" (t: text, a: int, b: bool, l: ids); diff q = s, r;",
         "6 ColumnsDiffer",
     ),
-    ("minus r = s, u;", "5 NotBuilt"),
+    ("minus r = s, u;", "ok 5"),
     (
         "pregel p = g rounds 1 merge (m: sum) initial (0) program (a: m.m, t: v.t, b: v.b, l: v.l) \
          to src (1);",
