@@ -63,8 +63,6 @@ impl GraphWork {
     ) -> Result<GraphWork, NoMemory>
         requires nonzero { 1 ≤ parts }
         requires within_limit { parts ≤ 64 }
-        requires world { IsWorld
-            (record { script = typed; loads = loads; parts = parts; cut = cut }) }
         ensures { IfOk result (λ work. work ≡ record {
           world = record { script = typed; loads = loads; parts = parts; cut = cut };
           planned = empty_plan parts (length typed);
@@ -74,6 +72,7 @@ impl GraphWork {
         let loads = LoadedParts::new(alloc, typed.clone()?, loads, parts, cut)?;
         let plan = Plan::new(alloc, typed, parts, cut)?;
         plan.nodes_are_fed();
+        may_run(&plan, &loads);
         Ok(GraphWork { plan, loads, alloc })
     }
 
@@ -116,6 +115,16 @@ impl GraphWork {
         self.plan.nodes_are_fed();
         extended
     }
+}
+
+// Tells that a script that is well typed may be run. It does nothing.
+fn may_run(plan: &Plan, loads: &LoadedParts)
+    requires script { plan.now.script ≡ loads.now.script }
+    requires some_parts { 1 ≤ loads.now.parts }
+    ensures { IsWorld loads.now }
+{
+    plan.nodes_are_fed();
+    plan.typed().statements_are_sound();
 }
 
 impl Work<Block> for GraphWork {
