@@ -1,7 +1,7 @@
 -- Contents of its inputs may be the inputs of a block.
-use Rattle.std.proofs.Common.{◌≡◌, ℕ, Option, None, Some, List, [], ◌∷◌, sym, subst}
+use Rattle.std.proofs.Common.{ℕ, Option, None, Some, List, [], ◌∷◌, sym, subst}
 use Rattle.std.specs.List.{AllZip}
-use Rattle.gx_exec_contents.specs.BlockContents.{content_of, recipe_of_block, stop_of}
+use Rattle.gx_exec_contents.specs.BlockContents.{recipe_of_block, stop_of}
 use Rattle.gx_exec_contents.specs.PartContents.{BlockStop, held_kind, stop_or}
 use Rattle.gx_exec_contents.specs.Worlds.{value_in}
 use Rattle.gx_exec_work.specs.Works.{FitsBlock, IsContentOf, IsOfKind, PlannedWorld, shown}

@@ -1,2 +1,3 @@
 pub mod FittingInputs
+pub mod MadeTables
 pub mod Works

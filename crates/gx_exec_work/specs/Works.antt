@@ -4,12 +4,12 @@ use Rattle.std.specs.List.{AllZip}
 use Rattle.gx_cluster_state.specs.Nets.{Net, net_of}
 use Rattle.gx_exec_contents.specs.BlockContents.{content_of, recipe_of_block}
 use Rattle.gx_exec_contents.specs.PartContents.{Content, Edges, Stopped, Table}
-use Rattle.gx_exec_contents.specs.Worlds.{World}
+use Rattle.gx_exec_contents.specs.Worlds.{IsSetting, World}
 use Rattle.gx_exec_work.specs.declared.block.Block.{Block}
 use Rattle.gx_exec_work.specs.declared.block.Block.TheVariants as block
 use Rattle.gx_lineage.specs.Lineage.{IsBlock, block_inputs}
 use Rattle.gx_lineage.specs.declared.block_id.BlockId.{BlockId}
-use Rattle.gx_plan.specs.Plans.{Planned, recipe_at}
+use Rattle.gx_plan.specs.Plans.{Planned, PlannedScript}
 use Rattle.gx_plan.specs.declared.kind.Kind.{Kind}
 use Rattle.gx_plan.specs.declared.kind.Kind.TheVariants as kind
 use Rattle.gx_rows.specs.declared.vid.Vid.{Vid}
@@ -18,6 +18,12 @@ use Rattle.gx_rows.specs.declared.vid.Vid.{Vid}
 pub record PlannedWorld : Type 0 where
   pub world : World
   pub planned : Planned
+
+-- what a work is made of: loaded rows by part, and a plan of their script with their cut
+pub record IsWork (w : World) (plan : PlannedScript) : Type 0 where
+  pub setting : IsSetting w plan.planned
+  pub script : plan.script ≡ w.script
+  pub cut : plan.cut ≡ w.cut
 
 -- ---- blocks as contents
 

@@ -14,5 +14,9 @@ pub enum Block {
     Edges(Rc<EPart>),
     /// Nothing, since the block or one that it is computed from has a fault: the vertex or edge on
     /// which an expression has no value, the number of the node, and why.
-    Stopped { key: RowKey, expr: u32, cause: Cause },
+    Stopped {
+        key: RowKey,
+        expr: u32,
+        cause: Cause,
+    },
 }

@@ -2,12 +2,9 @@
 
 ghost use Rattle.std.specs.Prelude.{◌≡◌, ◌≤◌, ◌-◌, IfOk, None, OnErr, OnOk, get_or, length};
 ghost use Rattle.std.specs.List.{AllByRecursion};
-ghost use Rattle.gx_cluster_state.specs.Values.{pointed_values};
-ghost use Rattle.gx_exec_contents.specs.MadeBlocks.{made_by};
-ghost use Rattle.gx_exec_contents.specs.BlockContents.{recipe_of_block};
-ghost use Rattle.gx_exec_contents.specs.Worlds.{IsSetting};
-ghost use Rattle.gx_exec_work.specs.Works.{FitsBlock, IsContentOf, freight_of, shown_blocks};
+ghost use Rattle.gx_exec_contents.specs.Worlds.{IsSetting, IsWorld};
 ghost use Rattle.gx_exec_work.specs.FittingInputs.{contents_of_inputs-fit};
+ghost use Rattle.gx_exec_work.specs.Works.{FitsBlock, IsContentOf, freight_of};
 ghost use Rattle.gx_plan.specs.PlanInvariant.{IsFrontOf};
 ghost use Rattle.gx_plan.specs.Plans.{IsAdded, empty_plan, with_number};
 ghost use Rattle.gx_plan.specs.StmtNodes.{statement_of};
@@ -16,6 +13,7 @@ ghost use Rattle.gx_types_stmts.specs.StmtNumbers.{named_numbers};
 use crate::Block;
 use gx_cluster::{Cargo, Work};
 use gx_cuts::Cut;
+use gx_exec_loads::LoadedParts;
 use gx_lineage::{BlockId, Dag};
 use gx_load::Loads;
 use gx_plan::Plan;
@@ -30,13 +28,12 @@ use std::rc::Rc;
 #[derive(Drop)]
 pub struct GraphWork {
     plan: Plan,
-    loads: Loads,
-    alloc: Global,
+    pub(crate) loads: LoadedParts,
+    pub(crate) alloc: Global,
 }
 
 impl Model for GraphWork {
-    ghost use Rattle.gx_exec_work.specs.Works.{PlannedWorld};
-    ghost use Rattle.gx_exec_contents.specs.Worlds.{IsSetting};
+    ghost use Rattle.gx_exec_work.specs.Works.{IsWork, PlannedWorld};
     ghost use Rattle.std.specs.Coded.{codes};
     ghost use Rattle.gx_expr.specs.contracts.expr.Expr as expr;
 
@@ -44,24 +41,9 @@ impl Model for GraphWork {
 
     ghost coded = { Prim.hlevel (codes, expr.the_row.coded) };
 
-    ghost view = { λ g. record {
-      world = record {
-        script = g.plan.script;
-        loads = g.loads;
-        parts = g.plan.planned.lineage.parts;
-        cut = g.plan.cut;
-      };
-      planned = g.plan.planned;
-    } };
+    ghost view = { λ g. record { world = g.loads; planned = g.plan.planned } };
 
-    ghost invariant = { λ g. IsSetting
-      (record {
-        script = g.plan.script;
-        loads = g.loads;
-        parts = g.plan.planned.lineage.parts;
-        cut = g.plan.cut;
-      })
-      g.plan.planned };
+    ghost invariant = { λ g. IsWork g.loads g.plan };
 }
 
 impl GraphWork {
@@ -70,7 +52,8 @@ impl GraphWork {
     ///
     /// # Errors
     ///
-    /// `NoMemory` if memory for the plan or for the places of the rows runs out.
+    /// `NoMemory` if memory for the plan or for the places of the rows runs out, or if a load has
+    /// 2^32 rows or more.
     pub fn new(
         alloc: Global,
         typed: Typed,
@@ -85,12 +68,12 @@ impl GraphWork {
           planned = empty_plan parts (length typed);
         }) }
     {
-        let _ = alloc;
-        let _ = typed;
-        let _ = loads;
-        let _ = parts;
-        let _ = cut;
-        Err(NoMemory)
+        let typed = Rc::new(alloc, typed)?;
+        let loads = LoadedParts::new(alloc, typed.clone()?, loads, parts, cut)?;
+        let plan = Plan::new(alloc, typed, parts, cut)?;
+        plan.nodes_are_fed();
+        may_run(&plan, &loads);
+        Ok(GraphWork { plan, loads, alloc })
     }
 
     /// The plan.
@@ -128,9 +111,20 @@ impl GraphWork {
         ensures front { OnOk result (IsFrontOf self.old.planned self.new.planned) }
         ensures unchanged { OnErr result (self.new ≡ self.old) }
     {
-        let _ = s;
-        Err(NoMemory)
+        let extended = self.plan.extend(s);
+        self.plan.nodes_are_fed();
+        extended
     }
+}
+
+// Tells that a script that is well typed may be run. It does nothing.
+fn may_run(plan: &Plan, loads: &LoadedParts)
+    requires script { plan.now.script ≡ loads.now.script }
+    requires some_parts { 1 ≤ loads.now.parts }
+    ensures { IsWorld loads.now }
+{
+    plan.nodes_are_fed();
+    plan.typed().statements_are_sound();
 }
 
 impl Work<Block> for GraphWork {
@@ -148,9 +142,8 @@ impl Work<Block> for GraphWork {
     }
 
     fn run(&self, b: BlockId, inputs: &[Rc<Block>]) -> Result<Block, NoMemory> {
-        let _ = b;
-        let _ = inputs;
-        Err(NoMemory)
+        self.is_set();
+        self.make(b, inputs)
     }
 
     fn cargo(&self, b: BlockId, value: &Block) -> Result<Cargo, NoMemory> {
@@ -158,5 +151,6 @@ impl Work<Block> for GraphWork {
         let _ = value;
         Ok(Cargo::of(Vec::new(self.alloc)))
     }
+
     ghost fits_contents = { λ e b ts block h. contents_of_inputs-fit e b ts block h };
 }

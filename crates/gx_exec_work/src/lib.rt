@@ -10,6 +10,9 @@
 
 mod block;
 mod graph_work;
+mod inputs;
+mod kernels;
+mod make;
 
 pub use block::Block;
 pub use graph_work::GraphWork;

@@ -1,0 +1,4 @@
+pub mod FiledRows
+pub mod RowsOfParts
+pub mod Ascending
+pub mod RowsOfLoads

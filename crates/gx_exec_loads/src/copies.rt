@@ -1,0 +1,84 @@
+//! Copies of the rows at given positions.
+
+ghost use Rattle.std.specs.Prelude.{◌≡◌, ◌∷◌, ◌++◌, IfOk, OnOk, [], map, slice_get};
+ghost use Rattle.std.specs.Option.{option_copied};
+ghost use Rattle.gx_exec_loads.specs.Filing.{items_at, vertex_of_row};
+
+use gx_rows::{NoMemory, Row, Vid};
+use std::alloc::Global;
+
+/// The identifier and the row of each row at these positions.
+pub(crate) fn vertices_at(
+    alloc: Global,
+    rows: &[(Vid, Vid, Row)],
+    positions: &[u32],
+) -> Result<Vec<(Vid, Row)>, NoMemory>
+    ensures { IfOk result (λ vs.
+        vs.items ≡ map vertex_of_row (items_at rows.now positions.now)) }
+{
+    let mut vertices = Vec::with_capacity(alloc, positions.len())?;
+    let mut rest = positions;
+    while let [n, after @ ..] = rest {
+        append_vertex(&mut vertices, rows, *n)?;
+        rest = after;
+    }
+    Ok(vertices)
+}
+
+fn append_vertex(
+    vertices: &mut Vec<(Vid, Row)>,
+    rows: &[(Vid, Vid, Row)],
+    n: u32,
+) -> Result<(), NoMemory>
+    ensures { OnOk result (vertices.new.items
+        ≡ vertices.old.items ++ map vertex_of_row (items_at rows.now (n ∷ []))) }
+{
+    match row_at(rows, n) {
+        Some(row) => append(vertices, (row.0, row.2.copy()?)),
+        None => Ok(()),
+    }
+}
+
+/// Source, destination and row of each row at these positions.
+pub(crate) fn edges_at(
+    alloc: Global,
+    rows: &[(Vid, Vid, Row)],
+    positions: &[u32],
+) -> Result<Vec<(Vid, Vid, Row)>, NoMemory>
+    ensures { IfOk result (λ es. es.items ≡ items_at rows.now positions.now) }
+{
+    let mut edges = Vec::with_capacity(alloc, positions.len())?;
+    let mut rest = positions;
+    while let [n, after @ ..] = rest {
+        append_edge(&mut edges, rows, *n)?;
+        rest = after;
+    }
+    Ok(edges)
+}
+
+fn append_edge(
+    edges: &mut Vec<(Vid, Vid, Row)>,
+    rows: &[(Vid, Vid, Row)],
+    n: u32,
+) -> Result<(), NoMemory>
+    ensures { OnOk result (edges.new.items ≡ edges.old.items ++ items_at rows.now (n ∷ [])) }
+{
+    match row_at(rows, n) {
+        Some(row) => append(edges, (row.0, row.1, row.2.copy()?)),
+        None => Ok(()),
+    }
+}
+
+fn row_at(rows: &[(Vid, Vid, Row)], n: u32) -> Option<&(Vid, Vid, Row)>
+    ensures { option_copied result ≡ slice_get rows.now n }
+{
+    rows.get(n as usize)
+}
+
+/// One more item.
+pub(crate) fn append<T: Drop>(items: &mut Vec<T>, item: T) -> Result<(), NoMemory>
+    ensures { OnOk result (items.new.items ≡ items.old.items ++ item ∷ []) }
+{
+    items.push(item)?;
+    Ok(())
+}

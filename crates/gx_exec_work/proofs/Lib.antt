@@ -1,0 +1,4 @@
+pub mod Contents
+pub mod BlocksOfKernels
+pub mod RunWorlds
+pub mod Statements
