@@ -94,7 +94,7 @@ impl Engine {
             Err(stop) => return Err(stop),
         };
         self.is_set();
-        let _few = self.work.plan().dag().parts();
+        let _few = self.parts();
         Ok(blocks)
     }
 

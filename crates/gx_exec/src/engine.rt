@@ -124,9 +124,10 @@ impl Engine {
         self.work.is_set();
     }
 
-    // The number of parts of each node.
+    // The number of parts of each node, 1 to 64.
     pub(crate) fn parts(&self) -> u32
-        ensures { result ≡ self.now.world.parts }
+        ensures count { result ≡ self.now.world.parts }
+        ensures within_limit { result ≤ 64 }
     {
         self.is_set();
         self.work.plan().dag().parts()

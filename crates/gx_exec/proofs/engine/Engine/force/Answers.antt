@@ -1,9 +1,10 @@
 use Rattle.std.proofs.Common.{◌∙◌, subst, sym}
 use Rattle.gx_plan.specs.PlanInvariant.{IsFrontOf}
 use Rattle.gx_exec.specs.Courses.{forced}
+use Rattle.gx_exec_work.specs.Works.{net_in}
 use Rattle.gx_exec.specs.Engines.{point_of}
 use Rattle.gx_exec.proofs.CourseFaults.{forced-fault}
-use Rattle.gx_exec.proofs.CourseRuns.{front-same}
+use Rattle.gx_exec.proofs.CourseRuns.{front-same, passes-here}
 use Rattle.gx_exec.proofs.ForcedStatements.{after-contents, after-front, after-next, after-steady, forced-ends, forced-stops}
 use Rattle.gx_exec.proofs.JudgedPhases.{exact-by}
 use Rattle.gx_exec.proofs.engine.Engine.force.Goals as goal
@@ -50,3 +51,7 @@ returns-clause-steady_kept c =
     c.run_phases.result (point_of c.args.cluster.now) (point_of c.run_phases.new.cluster) c.run_phases.ensures.ok)
     (forced-stops c.args.self.now c.extend.new.self c.args.s (sym c.is_added.ensures ∙ c.if-is_added.false) c.in_default.ensures.added
     c.run_phases.result (point_of c.args.cluster.now) (point_of c.run_phases.new.cluster) c.run_phases.ensures.stop))
+
+pub returns-in-Err-clause-stop : goal.returns-in-Err-clause-stop
+returns-in-Err-clause-stop c q front =
+    passes-here (net_in c.args.self.now.world q) (forced c.args.self.now.world c.args.self.now.planned c.args.s).commands (point_of c.args.cluster.now)

@@ -8,7 +8,7 @@ use Rattle.gx_exec.proofs.engine.Engine.least_stop.Goals as goal
 pub stop_of_block-requires-clause-held : goal.stop_of_block-requires-clause-held
 stop_of_block-requires-clause-held c =
     held-at (is_held (shape c.args.cluster.now)) c.args.node 0 c.args.self.now.world.parts (c.parts-parts.result - 1 - c.loop-i.i) c.requires.held
-    (omega arith) (omega (arith, c.parts-parts.ensures, c.loop-i-test.true))
+    (omega arith) (omega (arith, c.parts-parts.ensures.count, c.loop-i-test.true))
 
 pub loop-i-preserved : goal.loop-i-preserved
 loop-i-preserved c =
