@@ -1,7 +1,6 @@
 -- A script that was parsed may be checked.
-use Rattle.std.proofs.Common.{◌≡◌, ℕ, List, Option, Some, Result, Ok, Err, All, sym}
-use Rattle.std.specs.Prelude.{IfSome}
-use Rattle.gx_syntax.specs.Meanings.{HasOneMeaning, meaning_of, meaning_of_result}
+use Rattle.std.proofs.Common.{◌≡◌, ℕ, List, All}
+use Rattle.gx_syntax.specs.Meanings.{HasOneMeaning, meaning_of}
 use Rattle.gx_syntax.specs.ParsedBounds.{SpellsBoundedScripts}
 use Rattle.gx_syntax.specs.Texts.{script}
 use Rattle.gx_syntax_tokens.specs.Lexing.{tokens_of}

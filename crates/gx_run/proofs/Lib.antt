@@ -1,4 +1,8 @@
+pub mod ActionRuns
+pub mod ActionsAmong
+pub mod CourseRuns
 pub mod LaterStatements
+pub mod LogEnds
 pub mod ParsedScripts
 pub mod PrintedTexts
 pub mod ReadFiles

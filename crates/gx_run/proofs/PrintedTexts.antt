@@ -1,7 +1,8 @@
 -- Texts that are printed one after another.
-use Rattle.std.proofs.Common.{◌≡◌, ◌≢◌, ℕ, ◌+◌, ◌-◌, ◌<◌, List, [], ◌++◌, length, take, drop, Option, None, Some, refl, sym, ◌∙◌, ap, subst, arith, append_assoc, append-nil, length-append}
+use Rattle.std.proofs.Common.{◌≡◌, ◌≢◌, ℕ, ◌+◌, ◌-◌, ◌<◌, List, [], ◌∷◌, ◌++◌, length, take, drop, Option, None, Some, refl, sym, ◌∙◌, ap, ap₂, subst, arith, append_assoc, append-nil, length-append}
+use Rattle.std.specs.Prelude.{cond, is_some}
 use Rattle.std.specs.Io.KnownBytes.{Appends}
-use Rattle.std.specs.List.{concat}
+use Rattle.std.specs.List.{concat, range_with_len}
 use Rattle.std.proofs.Math.Seq.{drop-length, take-append-add}
 use Rattle.std.proofs.lemmas.List.{take-append-le}
 use Rattle.std.proofs.lemmas.List.Folds.{concat-append}
@@ -13,8 +14,10 @@ use Rattle.gx_model.specs.ScriptMeaning.{Loaded, RunMeaning, ScriptAnswers, answ
 use Rattle.gx_print.specs.declared.status.Status.{Status}
 use Rattle.gx_print.specs.declared.status.Status.TheVariants as status
 use Rattle.gx_types_stmts.specs.declared.checked_stmt.CheckedStmt.{CheckedStmt}
-use Rattle.gx_lists.specs.AnswerLists.{action_answer}
+use Rattle.gx_exec.specs.Engines.{action_answer}
+use Rattle.gx_run.specs.ActionLogs.{actions_among}
 use Rattle.gx_run.specs.ActionTexts.{HasPrinted, Prints, meaning_of_number, nothing_answered, with_texts}
+use Rattle.gx_run.proofs.ActionsAmong.{actions_more}
 use Rattle.gx_run.proofs.LaterStatements.{next_of}
 
 -- ---- bytes
@@ -86,7 +89,7 @@ stmt_begins l s None others = record {
 stmt_begins l s (Some a) others = answered_begins (fault_of_action l s) a others
 
 -- statement n + 1 begins what the statements from it on mean
-number_begins : (l : Loaded) (n : ℕ) → n < length l.checked
+pub number_begins : (l : Loaded) (n : ℕ) → n < length l.checked
     → Begins (meaning_of_number l (n + 1)) (meaning_of_answers (answers_from l (n + 1) (drop n l.checked)))
     (meaning_of_answers (answers_from l (n + 1 + 1) (drop (n + 1) l.checked)))
 number_begins l n within =
@@ -100,7 +103,29 @@ number_begins l n within =
 -- ---- the loop over statements
 
 pub printed_nothing : (l : Loaded) (before : Option (List ℕ)) → HasPrinted l 0 before before
-printed_nothing l before = record { texts = []; written = appends_nothing before; rest = refl }
+printed_nothing l before = record { texts = []; one_each = refl; written = appends_nothing before; rest = refl }
+
+-- a statement that ends without a fault prints one text if it is an action
+one_text : (l : Loaded) (s : ℕ) → (meaning_of_number l s).end ≡ status.Done
+    → length (meaning_of_number l s).texts ≡ length (actions_among l (s ∷ []))
+one_text l s done = by_answer (action_answer l s) done
+  where
+    by_fault : (fault : Option Fault) (a : Answer) → (meaning_of_answers (answered fault a nothing_answered)).end ≡ status.Done
+        → length (meaning_of_answers (answered fault a nothing_answered)).texts ≡ 1
+    by_fault None a h = refl
+    by_fault (Some f) a h = absurd (cc h)
+
+    by_answer : (o : Option Answer) → (meaning_of_answers (answered_if l s o nothing_answered)).end ≡ status.Done
+        → length (meaning_of_answers (answered_if l s o nothing_answered)).texts ≡ length (cond (is_some o) (s ∷ []) [])
+    by_answer None h = refl
+    by_answer (Some a) h = by_fault (fault_of_action l s) a h
+
+texts_more : (l : Loaded) (n : ℕ) (ts ms : List (List ℕ)) → length ts ≡ length (actions_among l (range_with_len 1 n))
+    → length ms ≡ length (actions_among l ((n + 1) ∷ []))
+    → length (ts ++ ms) ≡ length (actions_among l (range_with_len 1 (n + 1)))
+texts_more l n ts ms h k =
+    length-append ts ms ∙ (ap₂ (λ a b. a + b) h k
+    ∙ (sym (length-append (actions_among l (range_with_len 1 n)) (actions_among l ((n + 1) ∷ []))) ∙ ap length (sym (actions_more l n))))
 
 pub printed_more : (l : Loaded) (n : ℕ) (before mid after : Option (List ℕ)) (counted : Type 0)
     → n < length l.checked → HasPrinted l n before mid
@@ -111,6 +136,7 @@ printed_more l n before mid after counted within h p =
     let now = (number_begins l n within).done p.0 in
     record {
       texts = h.texts ++ m.texts;
+      one_each = texts_more l n h.texts m.texts h.one_each (one_text l (n + 1) p.0);
       written =
           subst (Appends before after) (sym (concat-append h.texts m.texts))
           (appends_both before mid after _ _ h.written p.1);
@@ -128,7 +154,7 @@ printed_all l before after counted h =
     (ap (λ (m : RunMeaning). m.end) all, rw texts h.written)
 
 -- what the run means, by what statement n + 1 means
-texts_of_all : (l : Loaded) (n : ℕ) (before mid : Option (List ℕ)) (within : n < length l.checked) (h : HasPrinted l n before mid)
+pub texts_of_all : (l : Loaded) (n : ℕ) (before mid : Option (List ℕ)) (within : n < length l.checked) (h : HasPrinted l n before mid)
     → (meaning_of_answers (answers_of_script l)).texts
     ≡ h.texts ++ ((meaning_of_number l (n + 1)).texts ++ (number_begins l n within).more)
 texts_of_all l n before mid within h =

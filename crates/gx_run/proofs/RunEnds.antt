@@ -10,6 +10,8 @@ use Rattle.gx_print.specs.StatusLines.{has_fixed_text}
 use Rattle.gx_print.specs.declared.status.Status.{Status}
 use Rattle.gx_print.specs.declared.status.Status.TheVariants as status
 use Rattle.gx_types_stmts.specs.declared.checked_stmt.CheckedStmt.{CheckedStmt}
+use Rattle.gx_exec_contents.specs.Worlds.{loaded_in}
+use Rattle.gx_exec_work.specs.Works.{PlannedWorld}
 use Rattle.gx_model.specs.DataFiles.{rows_of_script}
 use Rattle.gx_model.specs.ScriptMeaning.{Loaded, RunMeaning, answers_of_script, meaning_by_loads, meaning_of_answers, refused_with}
 use Rattle.gx_model.specs.Values.{LoadedRows}
@@ -99,43 +101,43 @@ refused_known name contents read write status.Sink w h = absurd h
 refused_known name contents read write status.NoMemory w h = writes_none (Some contents) (meaning_under name) w w refl
 
 pub refused_ends : (contents : Option Contents) (name : List ℕ) (a b : ℕ) (write : Type 0) (s : Status) (w : Option (List ℕ))
-    → Reads contents a b (λ (l : Loaded). l) (Err s) (loaded_under name)
+    → Reads contents a b (λ (e : PlannedWorld). loaded_in e.world) (Err s) (loaded_under name)
     → Ends contents (meaning_under name) (FaultCounted a b) write s w w
 refused_ends None name a b write s w r = refused_unknown name (FaultCounted a b) write s w r
 refused_ends (Some held) name a b write s w r = refused_known name held (FaultCounted a b) write s w r
 
 -- ---- the actions were begun
 
-means_loaded : (contents : Option Contents) (name : List ℕ) (a b : ℕ) (l : Loaded)
-    → Reads contents a b (λ (k : Loaded). k) (Ok l) (loaded_under name)
-    → RunMeans contents (meaning_under name) (meaning_of_answers (answers_of_script l))
-means_loaded None name a b l r = tt
-means_loaded (Some held) name a b l r = script_known (script_under name held) held l r
+means_loaded : (contents : Option Contents) (name : List ℕ) (a b : ℕ) (e : PlannedWorld)
+    → Reads contents a b (λ (x : PlannedWorld). loaded_in x.world) (Ok e) (loaded_under name)
+    → RunMeans contents (meaning_under name) (meaning_of_answers (answers_of_script (loaded_in e.world)))
+means_loaded None name a b e r = tt
+means_loaded (Some held) name a b e r = script_known (script_under name held) held (loaded_in e.world) r
 
 means_ended : (contents : Option Contents) (meaning : Contents → RunMeaning) (m : RunMeaning) (end : Status)
     → m.end ≡ end → RunMeans contents meaning m → RunMeans contents meaning (record { texts = m.texts; end = end })
 means_ended contents meaning m end is h = subst (λ e. RunMeans contents meaning (record { texts = m.texts; end = e })) is h
 
-pub printed_ends : (contents : Option Contents) (name : List ℕ) (a b : ℕ) (l : Loaded) (write : Type 0) (end : Status) (before after : Option (List ℕ))
-    → Reads contents a b (λ (k : Loaded). k) (Ok l) (loaded_under name)
-    → Prints (meaning_of_answers (answers_of_script l)) write end before after
+pub printed_ends : (contents : Option Contents) (name : List ℕ) (a b : ℕ) (e : PlannedWorld) (write : Type 0) (end : Status) (before after : Option (List ℕ))
+    → Reads contents a b (λ (x : PlannedWorld). loaded_in x.world) (Ok e) (loaded_under name)
+    → Prints (meaning_of_answers (answers_of_script (loaded_in e.world))) write end before after
     → Ends contents (meaning_under name) (FaultCounted a b) write end before after
-printed_ends contents name a b l write status.Done before after r p =
-    let m = meaning_of_answers (answers_of_script l) in
-    (m.texts, means_ended contents (meaning_under name) m _ p.0 (means_loaded contents name a b l r), p.1)
-printed_ends contents name a b l write status.Usage before after r p = absurd p
-printed_ends contents name a b l write (status.Script stop) before after r p = absurd p
-printed_ends contents name a b l write (status.Schedule line) before after r p = absurd p
-printed_ends contents name a b l write (status.Data stop) before after r p = absurd p
-printed_ends contents name a b l write (status.Fault fault) before after r p =
-    let m = meaning_of_answers (answers_of_script l) in
-    (m.texts, means_ended contents (meaning_under name) m _ p.0 (means_loaded contents name a b l r), p.1)
-printed_ends contents name a b l write (status.Limit kind) before after r p = absurd p
-printed_ends contents name a b l write (status.Source file) before after r p = absurd p
-printed_ends contents name a b l write status.Sink before after r p =
-    (p.0, (meaning_of_answers (answers_of_script l), means_loaded contents name a b l r, p.1))
-printed_ends contents name a b l write status.NoMemory before after r p =
-    (meaning_of_answers (answers_of_script l), p.0, means_loaded contents name a b l r, p.2)
+printed_ends contents name a b e write status.Done before after r p =
+    let m = meaning_of_answers (answers_of_script (loaded_in e.world)) in
+    (m.texts, means_ended contents (meaning_under name) m _ p.0 (means_loaded contents name a b e r), p.1)
+printed_ends contents name a b e write status.Usage before after r p = absurd p
+printed_ends contents name a b e write (status.Script stop) before after r p = absurd p
+printed_ends contents name a b e write (status.Schedule line) before after r p = absurd p
+printed_ends contents name a b e write (status.Data stop) before after r p = absurd p
+printed_ends contents name a b e write (status.Fault fault) before after r p =
+    let m = meaning_of_answers (answers_of_script (loaded_in e.world)) in
+    (m.texts, means_ended contents (meaning_under name) m _ p.0 (means_loaded contents name a b e r), p.1)
+printed_ends contents name a b e write (status.Limit kind) before after r p = absurd p
+printed_ends contents name a b e write (status.Source file) before after r p = absurd p
+printed_ends contents name a b e write status.Sink before after r p =
+    (p.0, (meaning_of_answers (answers_of_script (loaded_in e.world)), means_loaded contents name a b e r, p.1))
+printed_ends contents name a b e write status.NoMemory before after r p =
+    (meaning_of_answers (answers_of_script (loaded_in e.world)), p.0, means_loaded contents name a b e r, p.2)
 
 -- ---- memory for the text of the end ran out
 

@@ -1,12 +1,13 @@
 -- Texts of actions on a sink.
 use Rattle.std.specs.Prelude.{◌≡◌, ℕ, ◌+◌, ◌≤◌, List, [], ◌++◌, drop, length, take, Option, None, Result, Ok, Err}
 use Rattle.std.specs.Io.KnownBytes.{Appends}
-use Rattle.std.specs.List.{concat}
+use Rattle.std.specs.List.{concat, range_with_len}
 use Rattle.gx_outside.specs.Prefixes.{AppendsProperPrefix}
 use Rattle.gx_model.specs.ScriptMeaning.{Loaded, RunMeaning, ScriptAnswers, answered_if, answers_from, answers_of_script, meaning_of_answers}
 use Rattle.gx_print.specs.declared.status.Status.{Status}
 use Rattle.gx_print.specs.declared.status.Status.TheVariants as status
-use Rattle.gx_lists.specs.AnswerLists.{action_answer}
+use Rattle.gx_exec.specs.Engines.{action_answer}
+use Rattle.gx_run.specs.ActionLogs.{actions_among}
 
 abbrev pub nothing_answered : ScriptAnswers
 nothing_answered = record { answers = []; fault = None }
@@ -41,9 +42,10 @@ Prints m counted status.NoMemory before after =
 abbrev pub with_texts : List (List ℕ) → RunMeaning → RunMeaning
 with_texts texts m = record { texts = texts ++ m.texts; end = m.end }
 
--- the first n statements have printed what was written, and none of them ended the run
+-- the first n statements have printed what was written, a text for each action, and none of them ended the run
 pub record HasPrinted (l : Loaded) (n : ℕ) (before after : Option (List ℕ)) : Type 0 where
   pub texts : List (List ℕ)
+  pub one_each : length texts ≡ length (actions_among l (range_with_len 1 n))
   pub written : Appends before after (concat texts)
   pub rest : meaning_of_answers (answers_of_script l)
       ≡ with_texts texts (meaning_of_answers (answers_from l (n + 1) (drop n l.checked)))

@@ -1,5 +1,6 @@
 //! Whole runs, over files and sinks in memory.
 
+mod partitions;
 mod support;
 
 use std::alloc::{AllocError, Global};

@@ -1,5 +1,5 @@
-//! The top call: the arguments to a script's name, and the script's run. It sees files and sinks only
-//! through their traits.
+//! The top call: the arguments to a command, and the run of its script on a cluster. It sees files and
+//! sinks only through their traits.
 
 ghost use Rattle.std.specs.Prelude.{
   ◌≡◌,
@@ -7,20 +7,34 @@ ghost use Rattle.std.specs.Prelude.{
   ◌≤◌,
   ◌⊎◌,
   ◌↔◌,
+  ◌∷◌,
   List,
+  [],
   ℕ,
   None,
   Some,
   IfErr,
+  IfOk,
   IsSome,
-  option_map,
+  IsSomeAnd,
+  OnErr,
 };
 ghost use Rattle.gx_outside.specs.Contents.{Contents};
 ghost use Rattle.gx_outside.specs.Faults.{FaultCounted};
 ghost use Rattle.gx_print.specs.ExitCodes.{exit_code};
 ghost use Rattle.gx_model.specs.ScriptMeaning.{refused_with};
-ghost use Rattle.gx_run.specs.Args.{args_of, script_arg};
+ghost use Rattle.gx_exec_contents.specs.Worlds.{loaded_in};
+ghost use Rattle.gx_run.specs.Args.{script_arg};
 ghost use Rattle.gx_run.specs.Meaning.{loaded_under, meaning, meaning_under};
+ghost use Rattle.gx_run.specs.RunLogs.{
+  IsFreshEngine,
+  IsStart,
+  LogEnds,
+  LogsAll,
+  LogsFirst,
+  LogsPart,
+  RunLogs,
+};
 ghost use Rattle.gx_run.specs.RunResults.{
   Ends,
   IsMissing,
@@ -34,30 +48,42 @@ ghost use Rattle.gx_run.specs.RunResults.{
   WritesProperPrefix,
 };
 ghost use Rattle.gx_run.specs.Steps.{NamesOnly, Reads};
+ghost use Rattle.gx_run_args.specs.RunCommands.{
+  arg_bytes as args_of,
+  command_view,
+  run_command,
+};
 
 use crate::actions::print_actions;
 use crate::loads::read_loads;
 use crate::script::read_script;
 use crate::telling::tell;
-use gx_lists::ListEngine;
+use gx_cluster::Cluster;
+use gx_exec::Engine;
+use gx_exec_work::Block;
 use gx_outside::{Files, Sink};
 use gx_print::Status;
+use gx_run_args::{RunArgs, run_args};
 use std::alloc::Global;
 
 /// Runs `gx` with these arguments, the ones after the program's name: reads the script and its data
-/// from `files`, writes what the script prints to `out`, and the text of a status that is not `Done`
-/// to `err`.
+/// from `files`, has `cluster` compute what its actions use, writes what they print to `out`, and the
+/// text of a status that is not `Done` to `err`.
 ///
 /// The status says how the run ended. All files are read before the first action, and the text of
 /// each action is written before the next begins, so that after a fault `out` has the texts before
-/// it. Out of memory may come in place of any status but `Usage`.
+/// it. Out of memory may come in place of any status but `Usage`. The cluster has as many workers as
+/// the arguments say once all files are read; afterwards it has the log of the run.
 pub fn run<F: Files, O: Sink, E: Sink>(
     alloc: Global,
     args: &[String],
     files: &mut F,
     out: &mut O,
     err: &mut E,
+    cluster: &mut Cluster<Block>,
 ) -> Status
+    requires empty { cluster.old ≡ record { held = []; running = None ∷ []; log = []; spare = 0 } }
+
     // Done: the texts of all actions were written.
     ensures output_if_done { result ≡ Status.Done →
         WritesAll (F.contents files.old) (meaning (args_of args.now)) Status.Done
@@ -97,6 +123,22 @@ pub fn run<F: Files, O: Sink, E: Sink>(
         → (result ≡ (meaning (args_of args.now) contents).end)
         ⊎ (result ≡ Status.NoMemory) }
 
+    // The log is that of the commands of the script's actions, and what the cluster holds is content
+    // of the plan.
+    ensures log_if_done { result ≡ Status.Done →
+        IsSomeAnd (run_command (args_of args.now))
+        (λ c. LogsAll c (F.contents files.old) cluster.new) }
+    ensures log_if_fault { (fault : _) → result ≡ Status.Fault fault →
+        IsSomeAnd (run_command (args_of args.now))
+        (λ c. LogsAll c (F.contents files.old) cluster.new) }
+    ensures log_if_sink { result ≡ Status.Sink →
+        IsSomeAnd (run_command (args_of args.now))
+        (λ c. LogsFirst c (F.contents files.old) (O.written out.old) (O.written out.new)
+        cluster.new) }
+    ensures log_if_no_memory { result ≡ Status.NoMemory →
+        IsSomeAnd (run_command (args_of args.now))
+        (λ c. (cluster.new ≡ cluster.old) ⊎ LogsPart c (F.contents files.old) cluster.new) }
+
     // The text of the status was written to err, or a part of it if err failed.
     ensures told { Tells (FaultCounted (E.faults err.old) (E.faults err.new)) result
         (E.written err.old) (E.written err.new) }
@@ -105,6 +147,9 @@ pub fn run<F: Files, O: Sink, E: Sink>(
     ensures out_kept_if_refused { exit_code result ≢ 0 → exit_code result ≢ 5
         → exit_code result ≢ 6 → ((fault : _) → result ≢ Status.Fault fault)
         → O.written out.new ≡ O.written out.old }
+    ensures log_kept_if_refused { exit_code result ≢ 0 → exit_code result ≢ 5
+        → exit_code result ≢ 6 → ((fault : _) → result ≢ Status.Fault fault)
+        → cluster.new ≡ cluster.old }
     ensures output_if_no_memory { result ≡ Status.NoMemory →
         WritesFirst (F.contents files.old) (meaning (args_of args.now))
         (O.written out.old) (O.written out.new) }
@@ -117,7 +162,7 @@ pub fn run<F: Files, O: Sink, E: Sink>(
     ensures out_faults_only_rise { O.faults out.old ≤ O.faults out.new }
     ensures err_faults_only_rise { E.faults err.old ≤ E.faults err.new }
 {
-    let end = end_of_run(alloc, args, files, out);
+    let end = end_of_run(alloc, args, files, out, cluster);
     tell(alloc, err, end)
 }
 
@@ -127,11 +172,15 @@ fn end_of_run<F: Files, O: Sink>(
     args: &[String],
     files: &mut F,
     out: &mut O,
+    cluster: &mut Cluster<Block>,
 ) -> Status
+    requires empty { cluster.old ≡ record { held = []; running = None ∷ []; log = []; spare = 0 } }
     ensures ends { RunEnds (script_arg (args_of args.now)) (F.contents files.old)
         (FaultCounted (F.faults files.old) (F.faults files.new))
         (FaultCounted (O.faults out.old) (O.faults out.new)) result
         (O.written out.old) (O.written out.new) }
+    ensures logged { RunLogs (run_command (args_of args.now)) (F.contents files.old) result
+        (O.written out.old) (O.written out.new) cluster.old cluster.new }
     ensures source_is_requested { NamesOnly result
         (IsRequested (args_of args.now) (F.contents files.old)) }
     ensures contents_kept { F.contents files.new ≡ F.contents files.old }
@@ -139,37 +188,40 @@ fn end_of_run<F: Files, O: Sink>(
     ensures file_faults_only_rise { F.faults files.old ≤ F.faults files.new }
     ensures out_faults_only_rise { O.faults out.old ≤ O.faults out.new }
 {
-    match script_name(args) {
-        Some(name) => run_script(alloc, files, out, name),
+    match run_args(args) {
+        Some(command) => run_script(alloc, files, out, cluster, &command),
         None => Status::Usage,
     }
 }
 
-// The script's name, if the arguments are `run` and that name.
-fn script_name(args: &[String]) -> Option<&str>
-    ensures { option_map (λ name. name.now) result ≡ script_arg (args_of args.now) }
-{
-    match args {
-        [command, name] if command.as_str() == "run" => Some(name.as_str()),
-        _ => None,
-    }
-}
-
-// Runs the script of this name, and returns its end.
-fn run_script<F: Files, O: Sink>(alloc: Global, files: &mut F, out: &mut O, name: &str) -> Status
-    ensures ends { Ends (F.contents files.old) (meaning_under name.now)
+// Runs the script of this command, and returns its end.
+fn run_script<F: Files, O: Sink>(
+    alloc: Global,
+    files: &mut F,
+    out: &mut O,
+    cluster: &mut Cluster<Block>,
+    command: &RunArgs<'_>,
+) -> Status
+    requires parts_from_one { 1 ≤ command.now.parts }
+    requires parts_to_64 { command.now.parts ≤ 64 }
+    requires workers_from_one { 1 ≤ command.now.workers }
+    requires workers_to_64 { command.now.workers ≤ 64 }
+    requires empty { cluster.old ≡ record { held = []; running = None ∷ []; log = []; spare = 0 } }
+    ensures ends { Ends (F.contents files.old) (meaning_under command.now.script.now)
         (FaultCounted (F.faults files.old) (F.faults files.new))
         (FaultCounted (O.faults out.old) (O.faults out.new)) result
         (O.written out.old) (O.written out.new) }
+    ensures logged { LogEnds (command_view command.now) (F.contents files.old) result
+        (O.written out.old) (O.written out.new) cluster.old cluster.new }
     ensures source_is_requested { NamesOnly result
-        (IsScriptOrLoaded name.now (F.contents files.old)) }
+        (IsScriptOrLoaded command.now.script.now (F.contents files.old)) }
     ensures contents_kept { F.contents files.new ≡ F.contents files.old }
     ensures out_stays_known { IsSome (O.written out.new) ↔ IsSome (O.written out.old) }
     ensures file_faults_only_rise { F.faults files.old ≤ F.faults files.new }
     ensures out_faults_only_rise { O.faults out.old ≤ O.faults out.new }
 {
-    match load_script(alloc, files, name) {
-        Ok(mut engine) => match print_actions(alloc, &mut engine, out) {
+    match start(alloc, files, cluster, command) {
+        Ok(mut engine) => match print_actions(alloc, &mut engine, cluster, out) {
             Ok(()) => Status::Done,
             Err(end) => end,
         },
@@ -177,16 +229,50 @@ fn run_script<F: Files, O: Sink>(alloc: Global, files: &mut F, out: &mut O, name
     }
 }
 
-// The engine of the script of this name, with all its files loaded.
-fn load_script<F: Files>(alloc: Global, files: &mut F, name: &str) -> Result<ListEngine, Status>
+// The engine of the script of this command, and its cluster with so many workers.
+fn start<F: Files>(
+    alloc: Global,
+    files: &mut F,
+    cluster: &mut Cluster<Block>,
+    command: &RunArgs<'_>,
+) -> Result<Engine, Status>
+    requires parts_from_one { 1 ≤ command.now.parts }
+    requires parts_to_64 { command.now.parts ≤ 64 }
+    requires workers_from_one { 1 ≤ command.now.workers }
+    requires workers_to_64 { command.now.workers ≤ 64 }
+    requires empty { cluster.old ≡ record { held = []; running = None ∷ []; log = []; spare = 0 } }
     ensures contents_kept { F.contents files.new ≡ F.contents files.old }
     ensures faults_only_rise { F.faults files.old ≤ F.faults files.new }
     ensures loaded { Reads (F.contents files.old) (F.faults files.old) (F.faults files.new)
-        (λ engine. engine) result (loaded_under name.now) }
+        (λ engine. loaded_in engine.world) result (loaded_under command.now.script.now) }
+    ensures started { IfOk result
+        (λ engine. IsStart (command_view command.now) engine cluster.new) }
+    ensures cluster_kept { OnErr result (cluster.new ≡ cluster.old) }
     ensures source_is_requested { IfErr result (λ refusal. NamesOnly refusal
-        (IsScriptOrLoaded name.now (F.contents files.old))) }
+        (IsScriptOrLoaded command.now.script.now (F.contents files.old))) }
 {
-    let typed = read_script(alloc, files, name)?;
+    let engine = load_script(alloc, files, command)?;
+    cluster.configure(command.workers)?;
+    Ok(engine)
+}
+
+// The engine of the script of this command, with all its files loaded.
+fn load_script<F: Files>(
+    alloc: Global,
+    files: &mut F,
+    command: &RunArgs<'_>,
+) -> Result<Engine, Status>
+    requires parts_from_one { 1 ≤ command.now.parts }
+    requires parts_to_64 { command.now.parts ≤ 64 }
+    ensures contents_kept { F.contents files.new ≡ F.contents files.old }
+    ensures faults_only_rise { F.faults files.old ≤ F.faults files.new }
+    ensures loaded { Reads (F.contents files.old) (F.faults files.old) (F.faults files.new)
+        (λ engine. loaded_in engine.world) result (loaded_under command.now.script.now) }
+    ensures engine { IfOk result (IsFreshEngine (command_view command.now)) }
+    ensures source_is_requested { IfErr result (λ refusal. NamesOnly refusal
+        (IsScriptOrLoaded command.now.script.now (F.contents files.old))) }
+{
+    let typed = read_script(alloc, files, command.script)?;
     let loads = read_loads(alloc, files, &typed)?;
-    Ok(ListEngine::new(alloc, typed, loads)?)
+    Ok(Engine::new(alloc, typed, loads, command.parts, command.cut)?)
 }

@@ -1,8 +1,8 @@
 //! Files, sinks and arguments for whole runs.
 
-ghost use Rattle.std.specs.Prelude.{◌≤◌};
+ghost use Rattle.std.specs.Prelude.{◌≡◌, ◌≤◌, ◌∷◌, [], None};
 
-use crate::run;
+use crate::{Block, Cluster, run};
 use gx_outside::{MemFiles, MemSink};
 use gx_rows::NoMemory;
 use std::alloc::{AllocError, Global};
@@ -104,6 +104,29 @@ pub(super) fn files_of(
     Ok(MemFiles::of(files, piece, failing))
 }
 
+/// Stops the test unless a run with these arguments over these files, on this cluster, writes `out` and
+/// `err` and ends with this exit status.
+pub(super) fn assert_ends_on(
+    rt: &impl Abort,
+    alloc: Global,
+    cluster: &mut Cluster<Block>,
+    args: &[&str],
+    files: &mut MemFiles,
+    faults: Faults,
+    end: (&str, &str, u8),
+) -> Result<(), Fail>
+    requires { cluster.old ≡ record { held = []; running = None ∷ []; log = []; spare = 0 } }
+{
+    let args = args_of(alloc, args)?;
+    let mut out = sink_of(alloc, faults.first, faults.out)?;
+    let mut err = sink_of(alloc, None, faults.err)?;
+    let status = run(alloc, args.as_slice(), files, &mut out, &mut err, cluster);
+    assert_eq!(rt; str::from_utf8(err.bytes())?, end.1);
+    assert_eq!(rt; str::from_utf8(out.bytes())?, end.0);
+    assert_eq!(rt; status.code(), end.2);
+    Ok(())
+}
+
 /// Stops the test unless a run with these arguments over these files writes `out` and `err` and ends
 /// with this exit status.
 pub(super) fn assert_ends(
@@ -114,14 +137,8 @@ pub(super) fn assert_ends(
     faults: Faults,
     end: (&str, &str, u8),
 ) -> Result<(), Fail> {
-    let args = args_of(alloc, args)?;
-    let mut out = sink_of(alloc, faults.first, faults.out)?;
-    let mut err = sink_of(alloc, None, faults.err)?;
-    let status = run(alloc, args.as_slice(), files, &mut out, &mut err);
-    assert_eq!(rt; str::from_utf8(err.bytes())?, end.1);
-    assert_eq!(rt; str::from_utf8(out.bytes())?, end.0);
-    assert_eq!(rt; status.code(), end.2);
-    Ok(())
+    let mut cluster = Cluster::empty(alloc);
+    assert_ends_on(rt, alloc, &mut cluster, args, files, faults, end)
 }
 
 /// Stops the test unless the run of this script, with this file among the others, writes `out` and
