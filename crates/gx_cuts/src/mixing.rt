@@ -29,5 +29,11 @@ pub(crate) fn part_of(parts: u32, n: u64) -> u32
     ensures exact { result ≡ n % parts }
     ensures below { result < parts }
 {
-    (n % parts as u64) as u32
+    let log = parts.ilog2();
+    if parts == 1 << log {
+        // A mask takes a fraction of the time of a division.
+        (n & ((1 << log) - 1)) as u32
+    } else {
+        (n % parts as u64) as u32
+    }
 }
