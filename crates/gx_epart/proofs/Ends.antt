@@ -8,7 +8,8 @@ use Rattle.gx_rows.specs.Order.{Edge}
 use Rattle.gx_rows.specs.declared.vid.Vid.{Vid}
 use Rattle.gx_index.specs.Ends.{IsSetOf}
 use Rattle.gx_index.specs.Ids.{has_id, id_cmp, id_cmp-exact, id_cmp-total, is_same_id, slot_of}
-use Rattle.gx_epart.specs.Numbers.{HasKnownEnds, sources_and_destinations}
+use Rattle.gx_epart.specs.Edges.{sources_and_destinations}
+use Rattle.gx_epart.specs.Numbers.{HasKnownEnds}
 
 position-at : (v : Vid) (n : ℕ) (ids : List Vid) (k : ℕ) → position_from (is_same_id v) n ids ≡ Some k → (j : ℕ) × (k ≡ n + j) × (slice_get ids j ≡ Some v)
 position-at v n [] k e = cc

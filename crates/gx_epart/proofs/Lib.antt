@@ -1,4 +1,5 @@
 pub mod Derived
+pub mod DistinctEnds
 pub mod Ends
 pub mod Locals
 pub mod Numbered

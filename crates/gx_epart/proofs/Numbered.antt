@@ -7,10 +7,14 @@ use Rattle.gx_rows.specs.Order.{Edge, edge_cmp}
 use Rattle.gx_rows.specs.declared.value.Value.{Value}
 use Rattle.gx_rows.specs.declared.vid.Vid.{Vid}
 use Rattle.std.proofs.lemmas.List.Sorted.{All-permutation, IsPermutation-map}
+use Rattle.gx_index.specs.Ends.{IsSetOf}
 use Rattle.gx_index.specs.Ids.{IsAscending}
 use Rattle.gx_epart.specs.declared.local_edge.LocalEdge.{LocalEdge}
+use Rattle.gx_epart.specs.declared.extent.Extent.{Extent}
+use Rattle.gx_epart.specs.declared.extent.Extent.TheVariants.{Exact}
 use Rattle.gx_epart.specs.Edges.{IsEdgeOrderOf}
-use Rattle.gx_epart.specs.Numbers.{HasEdges, HasIds, HasKnownEnds, edge_of_numbers, edges_of_locals, id_of_number, locals_of}
+use Rattle.gx_epart.specs.Numbers.{HasEdges, HasIds, HasKnownEnds, edge_of_numbers, edges_of_locals, ends_of_numbers, id_of_number, locals_of}
+use Rattle.gx_epart.proofs.DistinctEnds.{IsSetOf-permuted}
 use Rattle.gx_epart.proofs.Locals.{IsInRange-of, edges_of_locals-of, length-locals_of}
 use Rattle.gx_epart.proofs.Orders.{IsSorted-edge_of_numbers, numbered_cmp}
 
@@ -31,12 +35,14 @@ numbered-more ids edges rest after numbered more e src dst so_far first at_src a
 
 module _ (ids : List Vid) (es : List (ℕ × ℕ × List Value)) (rows : List (List Value)) (locals : List LocalEdge)
     (rows_are : rows ≡ map (λ e. e.2) es) (locals_are : locals ≡ locals_of es) where
-  pub HasEdges-packed : length es < 2 ^ 32 → IsAscending ids → All (HasIds ids) es → IsSorted edge_cmp (map (edge_of_numbers ids) es) → HasEdges ids rows locals
-  HasEdges-packed few ascending known sorted = rw (rows_are, locals_are) (record {
+  pub HasEdges-packed : length es < 2 ^ 32 → IsAscending ids → All (HasIds ids) es → IsSorted edge_cmp (map (edge_of_numbers ids) es)
+      → (extent : Extent) → (extent ≡ Exact → IsSetOf (ends_of_numbers ids es) ids) → HasEdges extent ids rows locals
+  HasEdges-packed few ascending known sorted extent exact = rw (rows_are, locals_are) (record {
     few = omega (arith, length-locals_of es, few);
     ascending = ascending;
     in_range = IsInRange-of ids es known;
     sorted = rw edges_of_locals-of sorted;
+    exact = rw edges_of_locals-of exact;
   })
 
   pub edges-packed : edges_of_locals ids rows locals ≡ map (edge_of_numbers ids) es
@@ -46,6 +52,9 @@ module _ (ids : List Vid) (es ordered : List (ℕ × ℕ × List Value)) (ascend
     (same : IsPermutation es ordered) (sorted : IsSorted numbered_cmp ordered) where
   pub HasIds-ordered : All (HasIds ids) ordered
   HasIds-ordered = All-permutation (HasIds ids) es ordered same known
+
+  pub exact-ordered : IsSetOf (ends_of_numbers ids es) ids → IsSetOf (ends_of_numbers ids ordered) ids
+  exact-ordered = IsSetOf-permuted (map (edge_of_numbers ids) es) (map (edge_of_numbers ids) ordered) ids (IsPermutation-map (edge_of_numbers ids) es ordered same)
 
   pub IsEdgeOrderOf-ordered : IsEdgeOrderOf (map (edge_of_numbers ids) es) (map (edge_of_numbers ids) ordered)
   IsEdgeOrderOf-ordered = record {

@@ -31,6 +31,11 @@ ends_of_edge e = (e.0, e.1)
 abbrev pub ends_of_edges : List Edge → List (Vid × Vid)
 ends_of_edges edges = map ends_of_edge edges
 
+-- source and destination of each edge, one after the other
+abbrev pub sources_and_destinations : List Edge → List Vid
+sources_and_destinations [] = []
+sources_and_destinations (e ∷ edges) = e.0 ∷ e.1 ∷ sources_and_destinations edges
+
 -- the key of an edge's row
 abbrev pub key_of_edge : Edge → RowKey
 key_of_edge e = row_key.Edge e.0 e.1 e.2
@@ -61,6 +66,10 @@ edges_kept (e ∷ edges) (false ∷ keeps) = edges_kept edges keeps
 edge_order_of-example : edge_order_of ((record { 0 = pos 2 }, record { 0 = pos 3 }, Int (pos 1) ∷ []) ∷ (record { 0 = pos 1 }, record { 0 = pos 2 }, Int (pos 6) ∷ []) ∷ (record { 0 = pos 1 }, record { 0 = pos 2 }, Int (pos 4) ∷ []) ∷ [])
     ≡ (record { 0 = pos 1 }, record { 0 = pos 2 }, Int (pos 4) ∷ []) ∷ (record { 0 = pos 1 }, record { 0 = pos 2 }, Int (pos 6) ∷ []) ∷ (record { 0 = pos 2 }, record { 0 = pos 3 }, Int (pos 1) ∷ []) ∷ []
 edge_order_of-example = refl
+
+sources_and_destinations-example : sources_and_destinations ((record { 0 = pos 1 }, record { 0 = pos 2 }, []) ∷ (record { 0 = pos 3 }, record { 0 = pos 1 }, []) ∷ [])
+    ≡ record { 0 = pos 1 } ∷ record { 0 = pos 2 } ∷ record { 0 = pos 3 } ∷ record { 0 = pos 1 } ∷ []
+sources_and_destinations-example = refl
 
 reversed_edges-example : reversed_edges ((record { 0 = pos 1 }, record { 0 = pos 2 }, Int (pos 4) ∷ []) ∷ []) ≡ (record { 0 = pos 2 }, record { 0 = pos 1 }, Int (pos 4) ∷ []) ∷ []
 reversed_edges-example = refl

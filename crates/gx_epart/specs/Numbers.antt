@@ -3,7 +3,11 @@ use Rattle.std.specs.Prelude.{◌≡◌, ℕ, pos, ◌+◌, ◌<◌, ◌^◌, tr
 use Rattle.gx_rows.specs.Order.{Edge, edge_cmp}
 use Rattle.gx_rows.specs.declared.value.Value.{Value}
 use Rattle.gx_rows.specs.declared.vid.Vid.{Vid}
+use Rattle.gx_index.specs.Ends.{IsSetOf}
 use Rattle.gx_index.specs.Ids.{IsAscending, has_id}
+use Rattle.gx_epart.specs.Edges.{sources_and_destinations}
+use Rattle.gx_epart.specs.declared.extent.Extent.{Extent}
+use Rattle.gx_epart.specs.declared.extent.Extent.TheVariants.{Exact}
 use Rattle.gx_epart.specs.declared.local_edge.LocalEdge.{LocalEdge}
 
 -- the identifier of a number
@@ -18,6 +22,10 @@ edge_of_numbers ids e = (id_of_number ids e.0, id_of_number ids e.1, e.2)
 abbrev pub edge_of_local : List Vid → List (List Value) → LocalEdge → Edge
 edge_of_local ids rows e = (id_of_number ids e.src, id_of_number ids e.dst, slice_index_or rows e.row [])
 
+-- the ends of edges whose ends are numbers
+abbrev pub ends_of_numbers : List Vid → List (ℕ × ℕ × List Value) → List Vid
+ends_of_numbers ids es = sources_and_destinations (map (edge_of_numbers ids) es)
+
 abbrev pub edges_of_locals : List Vid → List (List Value) → List LocalEdge → List Edge
 edges_of_locals ids rows locals = map (edge_of_local ids rows) locals
 
@@ -28,11 +36,6 @@ HasIds ids e = (e.0 < length ids) × (e.1 < length ids)
 -- both ends have an identifier, and the row is there
 abbrev pub IsInRange : List Vid → List (List Value) → LocalEdge → Type 0
 IsInRange ids rows e = (e.src < length ids) × (e.dst < length ids) × (e.row < length rows)
-
--- source and destination of each edge
-abbrev pub sources_and_destinations : List Edge → List Vid
-sources_and_destinations [] = []
-sources_and_destinations (e ∷ edges) = e.0 ∷ e.1 ∷ sources_and_destinations edges
 
 -- both ends are among the identifiers
 abbrev pub HasKnownEnds : List Vid → Edge → Type 0
@@ -61,12 +64,13 @@ numbers_with_rows (e ∷ edges) (row ∷ rows) = (e.src, e.dst, row) ∷ numbers
 abbrev pub reversed_local : LocalEdge → LocalEdge
 reversed_local e = record { src = e.dst; dst = e.src; row = e.row }
 
--- the numbers are those of edges in order
-pub record HasEdges (ids : List Vid) (rows : List (List Value)) (locals : List LocalEdge) : Type 0 where
+-- the numbers are those of edges in order, and the identifiers are the ends of these, if exact
+pub record HasEdges (extent : Extent) (ids : List Vid) (rows : List (List Value)) (locals : List LocalEdge) : Type 0 where
   pub few : length locals < 2 ^ 32
   pub ascending : IsAscending ids
   pub in_range : All (IsInRange ids rows) locals
   pub sorted : IsSorted edge_cmp (edges_of_locals ids rows locals)
+  pub exact : extent ≡ Exact → IsSetOf (sources_and_destinations (edges_of_locals ids rows locals)) ids
 
 edges_of_locals-example : edges_of_locals (record { 0 = pos 7 } ∷ record { 0 = pos 9 } ∷ []) ([] ∷ []) (record { src = 1; dst = 0; row = 0 } ∷ []) ≡ (record { 0 = pos 9 }, record { 0 = pos 7 }, []) ∷ []
 edges_of_locals-example = refl

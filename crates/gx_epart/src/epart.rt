@@ -1,10 +1,11 @@
 //! Edge partitions.
 
-ghost use Rattle.std.specs.Prelude.{◌≡◌, ◌<◌, ◌^◌, IfOk, IsPermutation, IsSorted, Some, length, slice_get, vec_len};
+ghost use Rattle.std.specs.Prelude.{◌≡◌, ◌<◌, ◌^◌, IfOk, IfSome, IsPermutation, IsSorted, Some, length, slice_get, vec_len};
 ghost use Rattle.gx_rows.specs.Order.{edge_cmp};
-ghost use Rattle.gx_index.specs.Ends.{IsEndsOf};
-ghost use Rattle.gx_epart.specs.Edges.{IsEdgeOrderOf, ends_of_edges, reversed_edges};
+ghost use Rattle.gx_index.specs.Ends.{IsEndsOf, IsSetOf};
+ghost use Rattle.gx_epart.specs.Edges.{IsEdgeOrderOf, ends_of_edges, reversed_edges, sources_and_destinations};
 
+use crate::extent::Extent;
 use crate::local_edge::LocalEdge;
 use crate::numbering::{index_of_ends, number_ends, pack};
 use crate::traverse::turned;
@@ -19,8 +20,10 @@ use std::rc::Rc;
 /// 2^32 items.
 #[derive(Drop)]
 pub struct EPart {
-    // In ascending order. After `filter` some may be the end of no edge.
+    // In ascending order.
     pub(crate) ends: Rc<Index>,
+    // `Exact` if each of `ends` is the end of an edge; `filter` makes it `Wider`.
+    pub(crate) extent: Extent,
     // In edge order. Rows may be in another order, and some may be the row of no edge.
     pub(crate) edges: Vec<LocalEdge>,
     pub(crate) rows: Rc<Vec<Row>>,
@@ -35,7 +38,7 @@ impl Model for EPart {
 
     ghost view = { λ p. edges_of_locals p.ends.value p.rows.value.items p.edges.items };
 
-    ghost invariant = { λ p. HasEdges p.ends.value p.rows.value.items p.edges.items };
+    ghost invariant = { λ p. HasEdges p.extent p.ends.value p.rows.value.items p.edges.items };
 }
 
 impl EPart {
@@ -52,7 +55,7 @@ impl EPart {
         edges.sort_unstable();
         let ends = index_of_ends(alloc, edges.as_slice())?;
         let numbered = number_ends(alloc, &ends, edges)?;
-        pack(alloc, Rc::new(alloc, ends)?, numbered)
+        pack(alloc, Rc::new(alloc, ends)?, Extent::Exact, numbered)
     }
 
     /// The number of edges.
@@ -92,6 +95,17 @@ impl EPart {
         Ends::of(alloc, ends.as_slice())
     }
 
+    /// The distinct ends of the edges in ascending order, borrowed. It takes no memory. `None` if the
+    /// partition was filtered, since some identifiers may then be the end of no edge.
+    pub fn distinct_ends(&self) -> Option<&[Vid]>
+        ensures { IfSome result (λ ids. IsSetOf (sources_and_destinations self.now) ids.now) }
+    {
+        match self.extent {
+            Extent::Exact => Some(self.ends.ids()),
+            Extent::Wider => None,
+        }
+    }
+
     /// Each edge with source and destination exchanged. Ends and rows are shared.
     ///
     /// # Errors
@@ -106,6 +120,11 @@ impl EPart {
         let mut edges = turned(*self.edges.allocator(), self.edges.as_slice())?;
         // A stable sort: parallel edges stay in the order of their rows.
         edges.sort_by_key(|e| (e.src, e.dst))?;
-        Ok(EPart { ends, edges, rows })
+        Ok(EPart {
+            ends,
+            extent: self.extent,
+            edges,
+            rows,
+        })
     }
 }

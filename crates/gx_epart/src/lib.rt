@@ -10,6 +10,7 @@
 #![tactic(auto)]
 
 mod epart;
+mod extent;
 mod laws;
 mod local_edge;
 mod numbering;

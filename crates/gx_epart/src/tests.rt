@@ -82,6 +82,7 @@ fn maps_and_filters(rt: HostRuntime) -> Result<(), Fail> {
     let part = part_of(&rt, rt.alloc(), &edges)?;
     let ends = [(1, true, true), (2, true, true), (3, true, true)];
     assert_ends(&rt, &part, &ends)?;
+    assert_eq!(&rt; part.distinct_ends().map(|ids| ids.len()), Some(3));
 
     // The rows of the parallel edges change their order.
     let mapped = part.map(|_, _, row| Ok(Row::one(Value::Int(10i64.wrapping_sub(number_in(row))))));
@@ -95,6 +96,7 @@ fn maps_and_filters(rt: HostRuntime) -> Result<(), Fail> {
     match filtered {
         Ok(filtered) => {
             assert_edges(&rt, &filtered, &[(1, 2, 6), (3, 1, 7)]);
+            assert!(&rt; filtered.distinct_ends().is_none());
             let ends = [(1, true, true), (2, false, true), (3, true, false)];
             assert_ends(&rt, &filtered, &ends)
         }

@@ -7,6 +7,7 @@ ghost use Rattle.gx_epart.specs.Edges.{IsEdgeOrderOf, edges_kept, edges_with_row
 ghost use Rattle.gx_epart.specs.Numbers.{numbers_with_rows, reversed_local};
 
 use crate::EPart;
+use crate::extent::Extent;
 use crate::local_edge::LocalEdge;
 use crate::numbering::sort_numbered;
 use gx_rows::{EvalStop, NoMemory, PartStop, Row, RowKey, Vid};
@@ -73,12 +74,14 @@ impl EPart {
         Ok(values)
     }
 
+    // The same edges with new rows, one for each.
     fn with_rows(&self, rows: Vec<Row>) -> Result<EPart, NoMemory>
+        requires { length rows.items ≡ length self.now }
         ensures { IfOk result (IsEdgeOrderOf (edges_with_rows self.now rows.items)) }
     {
         let alloc = *self.edges.allocator();
         let numbered = numbers_with(alloc, self.edges.as_slice(), rows)?;
-        sort_numbered(alloc, self.ends.clone()?, numbered)
+        sort_numbered(alloc, self.ends.clone()?, self.extent, numbered)
     }
 
     fn kept(&self, keeps: &[bool]) -> Result<EPart, NoMemory>
@@ -87,7 +90,12 @@ impl EPart {
         let edges = keep(*self.edges.allocator(), self.edges.as_slice(), keeps)?;
         let ends = self.ends.clone()?;
         let rows = self.rows.clone()?;
-        Ok(EPart { ends, edges, rows })
+        Ok(EPart {
+            ends,
+            extent: Extent::Wider,
+            edges,
+            rows,
+        })
     }
 }
 

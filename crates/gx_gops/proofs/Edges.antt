@@ -9,7 +9,7 @@ use Rattle.gx_rows.specs.Order.{Edge}
 use Rattle.gx_gops.specs.AllEdges.{edges_after, edges_of_parts}
 
 -- the item at a position is the first of those from there on
-drop-at : {X : Type 0} (xs : List X) (i : ℕ) (x : X) → slice_get xs i ≡ Some x → drop i xs ≡ x ∷ drop (i + 1) xs
+pub drop-at : {X : Type 0} (xs : List X) (i : ℕ) (x : X) → slice_get xs i ≡ Some x → drop i xs ≡ x ∷ drop (i + 1) xs
 drop-at xs i x at =
     let within : i < length xs = slice_get_within xs i x at in
     let next : suc i ≡ i + 1 = omega arith in

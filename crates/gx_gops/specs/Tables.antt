@@ -7,7 +7,7 @@ use Rattle.gx_rows.specs.declared.value.Value.{Value}
 use Rattle.gx_rows.specs.declared.value.Value.TheVariants.{Int}
 use Rattle.gx_rows.specs.declared.vid.Vid.{Vid}
 use Rattle.gx_cuts.specs.Mixing.{mix_of}
-use Rattle.gx_index.specs.Ids.{IsAscending, id_cmp}
+use Rattle.gx_index.specs.Ids.{IsAscending, has_id, id_cmp}
 use Rattle.gx_vpart.specs.Operators.{VertexRow, row_at}
 
 -- ---- tables
@@ -35,6 +35,10 @@ both_ends edges = flat_map (λ e. e.0 ∷ e.1 ∷ []) edges
 -- those of them that are in the partition
 abbrev pub ends_in_part : ℕ → ℕ → List Edge → List Vid
 ends_in_part part parts edges = filter (is_in_part part parts) (both_ends edges)
+
+-- the same identifiers, in any order and with repetitions
+abbrev pub HasSameIds : List Vid → List Vid → Type 0
+HasSameIds ids others = (v : Vid) → has_id v ids ≡ has_id v others
 
 -- whether a vertex is in the partition and has no row
 abbrev pub is_missing : List VertexRow → ℕ → ℕ → Vid → Bool

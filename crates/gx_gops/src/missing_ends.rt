@@ -6,9 +6,8 @@ ghost use Rattle.std.specs.Option.{option_copied};
 ghost use Rattle.gx_index.specs.Ends.{IsSetOf};
 ghost use Rattle.gx_index.specs.Ids.{HasDistinctIds, IsAscending};
 ghost use Rattle.gx_gops.specs.AllEdges.{edges_of_parts};
-ghost use Rattle.gx_gops.specs.Tables.{both_ends, default_rows, ends_in_part, is_missing, table_of};
+ghost use Rattle.gx_gops.specs.Tables.{HasSameIds, both_ends, default_rows, ends_in_part, is_missing, table_of};
 
-use crate::all_edges::AllEdges;
 use crate::lists::append;
 use gx_cuts::vertex_part;
 use gx_epart::EPart;
@@ -86,11 +85,71 @@ fn missing_ends(
         (filter (is_missing rows.now part parts) (both_ends (edges_of_parts edges.now)))) }
 {
     let mut ids = Vec::new(alloc);
-    'edges: for (src, dst, _row) in AllEdges::of(edges) {
-        append_if_missing(&mut ids, rows, src, part, parts)?;
-        append_if_missing(&mut ids, rows, dst, part, parts)?;
+    let mut rest = edges;
+    while let [first, after @ ..] = rest {
+        append_missing_ends(&mut ids, rows, first, part, parts)?;
+        rest = after;
     }
     IdSet::of(alloc, ids.as_slice())
+}
+
+// The missing ends of one edge partition, in any order and with repetitions, after the other
+// identifiers. A partition that lends its distinct ends has fewer of them than ends of edges.
+fn append_missing_ends(
+    ids: &mut Vec<Vid>,
+    rows: &VPart,
+    edges: &EPart,
+    part: u32,
+    parts: u32,
+) -> Result<(), NoMemory>
+    requires { part < parts }
+    ensures { OnOk result (HasSameIds ids.new.items
+        (ids.old.items ++ filter (is_missing rows.now part parts) (both_ends edges.now))) }
+{
+    match edges.distinct_ends() {
+        Some(ends) => append_missing(ids, rows, ends, part, parts),
+        None => append_missing_of_edges(ids, rows, edges, part, parts),
+    }
+}
+
+// Those of the identifiers that are missing, after the other ones.
+fn append_missing(
+    ids: &mut Vec<Vid>,
+    rows: &VPart,
+    ends: &[Vid],
+    part: u32,
+    parts: u32,
+) -> Result<(), NoMemory>
+    requires { part < parts }
+    ensures { OnOk result (ids.new.items
+        ≡ ids.old.items ++ filter (is_missing rows.now part parts) ends.now) }
+{
+    let mut rest = ends;
+    while let [end, after @ ..] = rest {
+        append_if_missing(ids, rows, *end, part, parts)?;
+        rest = after;
+    }
+    Ok(())
+}
+
+// The missing ones of the sources and destinations, edge by edge, after the other identifiers.
+fn append_missing_of_edges(
+    ids: &mut Vec<Vid>,
+    rows: &VPart,
+    edges: &EPart,
+    part: u32,
+    parts: u32,
+) -> Result<(), NoMemory>
+    requires { part < parts }
+    ensures { OnOk result (ids.new.items
+        ≡ ids.old.items ++ filter (is_missing rows.now part parts) (both_ends edges.now)) }
+{
+    for i in 0..edges.len() {
+        let (src, dst, _) = edges.edge(i);
+        append_if_missing(ids, rows, src, part, parts)?;
+        append_if_missing(ids, rows, dst, part, parts)?;
+    }
+    Ok(())
 }
 
 fn append_if_missing(

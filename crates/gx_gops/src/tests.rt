@@ -94,6 +94,22 @@ fn adds_missing_ends(rt: HostRuntime) -> Result<(), Fail> {
     Ok(())
 }
 
+// The loop at 9 is dropped, and so 9 is no end.
+#[test]
+fn adds_no_end_of_a_dropped_edge(rt: HostRuntime) -> Result<(), Fail> {
+    let alloc = rt.alloc();
+    let edges = edges_of(&rt, alloc, &[(9, 9, 1), (2, 3, 4)])?;
+    match edges.filter(|_, _, row| Ok(number_in(row) > 1)) {
+        Ok(kept) => {
+            let kept = [Rc::new(alloc, kept)?];
+            let whole = add_missing(alloc, None, kept.as_slice(), &row_of(0), 0, 1)?;
+            assert_vertices(&rt, &whole, &[(2, 0), (3, 0)]);
+        }
+        Err(_) => assert!(&rt; false),
+    }
+    Ok(())
+}
+
 fn assert_moved(
     rt: &impl Abort,
     alloc: Global,

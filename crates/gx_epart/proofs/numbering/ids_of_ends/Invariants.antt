@@ -1,5 +1,5 @@
 use Rattle.std.proofs.Common.{◌≡◌, ◌++◌, length}
-use Rattle.gx_epart.specs.Numbers.{sources_and_destinations}
+use Rattle.gx_epart.specs.Edges.{sources_and_destinations}
 use Rattle.gx_epart.proofs.numbering.ids_of_ends.Given as goal
 
 -- the identifiers so far and those of the rest are those of all edges
