@@ -95,8 +95,9 @@ impl EPart {
         Ends::of(alloc, ends.as_slice())
     }
 
-    /// The distinct ends of the edges in ascending order, borrowed. It takes no memory. `None` if the
-    /// partition was filtered, since some identifiers may then be the end of no edge.
+    /// The distinct ends of the edges in ascending order, borrowed. It takes no memory.
+    ///
+    /// `None` if the partition was filtered, since some identifiers may then be the end of no edge.
     pub fn distinct_ends(&self) -> Option<&[Vid]>
         ensures { IfSome result (λ ids. IsSetOf (sources_and_destinations self.now) ids.now) }
     {

@@ -98,7 +98,8 @@ pub fn sort_numbered(
     requires few { vec_len numbered < 2 ^ 32 }
     requires ascending { IsAscending ends.value }
     requires in_range { All (HasIds ends.value) numbered.items }
-    requires exact { extent ≡ Exact → IsSetOf (ends_of_numbers ends.value numbered.items) ends.value }
+    requires exact { extent ≡ Exact
+        → IsSetOf (ends_of_numbers ends.value numbered.items) ends.value }
     ensures { IfOk result (IsEdgeOrderOf (map (edge_of_numbers ends.value) numbered.items)) }
 {
     numbered.sort_unstable();
@@ -115,7 +116,8 @@ pub fn pack(
     requires few { vec_len numbered < 2 ^ 32 }
     requires ascending { IsAscending ends.value }
     requires in_range { All (HasIds ends.value) numbered.items }
-    requires exact { extent ≡ Exact → IsSetOf (ends_of_numbers ends.value numbered.items) ends.value }
+    requires exact { extent ≡ Exact
+        → IsSetOf (ends_of_numbers ends.value numbered.items) ends.value }
     requires sorted { IsSorted edge_cmp (map (edge_of_numbers ends.value) numbered.items) }
     ensures { IfOk result (λ part. part ≡ map (edge_of_numbers ends.value) numbered.items) }
 {
