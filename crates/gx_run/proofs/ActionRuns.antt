@@ -26,7 +26,8 @@ use Rattle.gx_rows.specs.declared.fault.Fault.{Fault}
 use Rattle.gx_run.specs.ActionLogs.{LogsAs, Moment, StopsInAction, StopsInText, actions_among, actions_of, texts_of}
 use Rattle.gx_run.specs.ActionTexts.{HasPrinted, meaning_of_number}
 use Rattle.gx_run.proofs.ActionsAmong.{actions_after, actions_more, actions_parted, after_from_one, single_from_one}
-use Rattle.gx_run.proofs.CourseRuns.{AllFromOne, answered_all_front, answered_both, passes_after, passes_before, passes_none, run_both, run_passes}
+use Rattle.gx_exec.proofs.CourseRuns.{passes-all, passes-here, run-then}
+use Rattle.gx_run.proofs.ActionCourses.{AllFromOne, answered_all_front, answered_both, passes_after, passes_before}
 use Rattle.gx_run.proofs.PrintedTexts.{appends_both, appends_nothing, number_begins, texts_of_all}
 
 -- ---- one course after another
@@ -45,7 +46,7 @@ ends_after w c f stop mid left p m q front h k =
       fault = k.fault;
       planned = k.planned;
       run =
-          λ o on. run_both (net_in w o) c.commands (f mid).commands p m q
+          λ o on. run-then (net_in w o) c.commands (f mid).commands p m q
           (h.run o (fronts-joined c.planned (f mid).planned o before on)) (k.run o on);
     })
 
@@ -74,7 +75,7 @@ passes_first w c f p q front h = by_fault c.fault refl
         (h o (fronts-joined c.planned (f c.planned).planned o front on)))
 
 pub ends_passes : (w : World) (c : Course) (stop : Option Fault) (left : Planned) (p q : Point) → EndsAs w c stop left p q → PassesAs w c p q
-ends_passes w c stop left p q h = λ o on. run_passes (net_in w o) c.commands p q (h.run o on)
+ends_passes w c stop left p q h = λ o on. passes-all (net_in w o) c.commands p q (h.run o on)
 
 -- ---- one action
 

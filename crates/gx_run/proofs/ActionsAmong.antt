@@ -6,7 +6,7 @@ use Rattle.std.proofs.lemmas.List.Elements.{filter-append}
 use Rattle.gx_exec.specs.Engines.{action_answer}
 use Rattle.gx_model.specs.ScriptMeaning.{Loaded}
 use Rattle.gx_run.specs.ActionLogs.{actions_among, actions_of}
-use Rattle.gx_run.proofs.CourseRuns.{AllFromOne}
+use Rattle.gx_run.proofs.ActionCourses.{AllFromOne}
 
 -- ---- one statement
 

@@ -1,6 +1,6 @@
+pub mod ActionCourses
 pub mod ActionRuns
 pub mod ActionsAmong
-pub mod CourseRuns
 pub mod LaterStatements
 pub mod LogEnds
 pub mod ParsedScripts

@@ -25,7 +25,7 @@ use Rattle.gx_run.specs.Meaning.{loaded_under}
 use Rattle.gx_run.specs.RunLogs.{CarriesOut, CarriesOutPart, IsFreshEngine, IsStart, LoadsAs, LogEnds, LogsAll, LogsFirst, LogsPart, RunLogs, course_by, start_of, world_of}
 use Rattle.gx_run.specs.Steps.{Reads, Refuses, RefusesUnknown}
 use Rattle.gx_run.proofs.ActionRuns.{ends_passes}
-use Rattle.gx_run.proofs.CourseRuns.{front_same, run_passes}
+use Rattle.gx_exec.proofs.CourseRuns.{front-same, passes-all}
 use Rattle.gx_run_args.specs.RunCommands.{RunCommand}
 
 -- ---- before the first action
@@ -70,7 +70,7 @@ start_point c = ap (λ running. record { shape = record { held = []; running = r
 carried_out : (w : World) (c : Course) (stop : Option Fault) (left : PlannedWorld) (start : Point) (cluster : State Block)
     → left.world ≡ w → HoldsWorkOf left cluster → EndsAs w c stop left.planned start (point_of cluster) → CarriesOut w c start cluster
 carried_out w c stop left start cluster same holds h = record {
-  run = h.run c.planned (front_same c.planned);
+  run = h.run c.planned (front-same c.planned);
   contents =
       subst (λ (p : Planned). HoldsWorkOf (record { world = w; planned = p }) cluster) h.planned
       (subst (λ (v : World). HoldsWorkOf (record { world = v; planned = left.planned }) cluster) same holds);
@@ -79,14 +79,14 @@ carried_out w c stop left start cluster same holds h = record {
 carried_out_part : (w : World) (c : Course) (left : PlannedWorld) (start : Point) (cluster : State Block)
     → left.world ≡ w → HoldsWorkOf left cluster → PassesAs w c start (point_of cluster) → CarriesOutPart w c start cluster
 carried_out_part w c left start cluster same holds h = record {
-  run = h c.planned (front_same c.planned);
+  run = h c.planned (front-same c.planned);
   planned = left.planned;
   contents = subst (λ (v : World). HoldsWorkOf (record { world = v; planned = left.planned }) cluster) same holds;
 }
 
 part_of_all : (w : World) (c : Course) (start : Point) (cluster : State Block) → CarriesOut w c start cluster → CarriesOutPart w c start cluster
 part_of_all w c start cluster h = record {
-  run = run_passes (net_in w c.planned) c.commands start (point_of cluster) h.run;
+  run = passes-all (net_in w c.planned) c.commands start (point_of cluster) h.run;
   planned = c.planned;
   contents = h.contents;
 }

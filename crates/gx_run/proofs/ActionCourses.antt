@@ -1,10 +1,12 @@
 -- Courses of several actions, one after the other.
 use Rattle.std.proofs.Common.{◌≡◌, ℕ, ◌+◌, ◌-◌, ◌≤◌, ◌⊎◌, inl, inr, true, false, Bool, List, [], ◌∷◌, ◌++◌, length, reverse, take, Option, None, Some, refl, sym, ◌∙◌, ap, subst, arith, append_assoc, append-nil, get_or, slice_get, unwrap_or, option_map}
 use Rattle.std.specs.Prelude.{◌==◌, ⊤, is_some}
-use Rattle.std.specs.List.{list_any}
+use Rattle.std.specs.List.{AllByRecursion, list_any}
 use Rattle.gx_cluster_state.specs.Nets.{Net}
 use Rattle.gx_cluster_state.specs.Runs.{Command, Demand, Passes, Point, Release, Run}
 use Rattle.gx_exec.specs.Courses.{Course, EndsAs, PassesAs, RunsAs, and_then, answered, answered_all, forced, forced_all, joined, phase, phases, still, was_added}
+use Rattle.gx_exec.proofs.CourseFaults.{front-forced, front-forced_all}
+use Rattle.gx_exec.proofs.CourseRuns.{front-same, joined-front, passes-here}
 use Rattle.gx_exec_contents.specs.Worlds.{World}
 use Rattle.gx_exec_work.specs.Works.{net_in}
 use Rattle.gx_lineage.specs.declared.node_id.NodeId.{NodeId}
@@ -19,27 +21,14 @@ use Rattle.gx_types_stmts.specs.declared.checked_stmt.CheckedStmt.{CheckedStmt}
 
 -- ---- runs of commands
 
-pub run_both : (n : Net) (cs ds : List Command) (p m q : Point) → Run n cs p m → Run n ds m q → Run n (cs ++ ds) p q
-run_both n [] ds p m q h k = subst (λ (x : Point). Run n ds x q) h k
-run_both n (c ∷ cs) ds p m q h k = (h.0, h.1, run_both n cs ds h.0 m q h.2 k)
-
 pub passes_after : (n : Net) (cs ds : List Command) (p m q : Point) → Run n cs p m → Passes n ds m q → Passes n (cs ++ ds) p q
 passes_after n [] ds p m q h k = subst (λ (x : Point). Passes n ds x q) h k
 passes_after n (c ∷ cs) ds p m q h k = inr (h.0, h.1, passes_after n cs ds h.0 m q h.2 k)
 
-pub passes_none : (n : Net) (cs : List Command) (p : Point) → Passes n cs p p
-passes_none n [] p = refl
-passes_none n (Demand targets ∷ cs) p = inl (inl refl)
-passes_none n (Release node ∷ cs) p = inl refl
-
 pub passes_before : (n : Net) (cs ds : List Command) (p q : Point) → Passes n cs p q → Passes n (cs ++ ds) p q
-passes_before n [] ds p q h = subst (λ (x : Point). Passes n ds p x) (sym h) (passes_none n ds p)
+passes_before n [] ds p q h = subst (λ (x : Point). Passes n ds p x) (sym h) (passes-here n ds p)
 passes_before n (c ∷ cs) ds p q (inl part) = inl part
 passes_before n (c ∷ cs) ds p q (inr more) = inr (more.0, more.1, passes_before n cs ds more.0 q more.2)
-
-pub run_passes : (n : Net) (cs : List Command) (p q : Point) → Run n cs p q → Passes n cs p q
-run_passes n [] p q h = h
-run_passes n (c ∷ cs) p q h = inr (h.0, h.1, run_passes n cs h.0 q h.2)
 
 -- ---- courses
 
@@ -73,43 +62,9 @@ answered_both w p (x ∷ xs) ys =
 
 -- ---- what is planned is the beginning of what is planned later
 
-pub front_same : (p : Planned) → IsFrontOf p p
-front_same p = record {
-  parts = refl;
-  more_nodes = [];
-  nodes = sym (append-nil p.lineage.nodes);
-  more_recipes = [];
-  recipes = sym (append-nil p.recipes);
-  results = λ r added. refl;
-  added = λ s added. added;
-}
-
-front_joined : (p : Planned) (x : Option Fault) (a b : Course) → IsFrontOf p a.planned → IsFrontOf a.planned b.planned → IsFrontOf p (joined x a b).planned
-front_joined p (Some f) a b h k = h
-front_joined p None a b h k = fronts-joined p a.planned b.planned h k
-
-phases_front : (w : World) (s : ℕ) (nss : List (List NodeId)) (p : Planned) → IsFrontOf p (phases w s nss p).planned
-phases_front w s [] p = front_same p
-phases_front w s (ns ∷ rest) p = front_joined p _ _ (phases w s rest p) (front_same p) (phases_front w s rest p)
-
-not_some : {A : Type 0} (o : Option A) → is_some o ≡ false → o ≡ None
-not_some None h = refl
-not_some (Some x) h = absurd (cc h)
-
-pub forced_front : (w : World) (p : Planned) (s : ℕ) → 1 ≤ s → IsFrontOf p (forced w p s).planned
-forced_front w p s from_one = by_test (was_added p s) refl
-  where
-    by_test : (t : Bool) → was_added p s ≡ t → IsFrontOf p (forced w p s).planned
-    by_test true is = rw is (front_same p)
-    by_test false is =
-        rw is
-        (fronts-joined p (with_number w.script p s) _ (added-front w.script p s from_one (not_some _ is))
-        (phases_front w s (phases_of w.script (with_number w.script p s) s) (with_number w.script p s)))
-
 -- each number is at least 1
 abbrev pub AllFromOne : List ℕ → Type 0
-AllFromOne [] = ⊤
-AllFromOne (n ∷ ns) = (1 ≤ n) × AllFromOne ns
+AllFromOne ns = AllByRecursion (λ n. 1 ≤ n) ns
 
 from_one_both : (xs ys : List ℕ) → AllFromOne xs → AllFromOne ys → AllFromOne (xs ++ ys)
 from_one_both [] ys h k = k
@@ -125,18 +80,13 @@ wanted_from_one (c ∷ earlier) wanted =
     by_test true is h k = rw is (from_one_both (stmts_wanted earlier (wanted ++ c.uses)) ((length earlier + 1) ∷ []) h (omega arith, tt))
     by_test false is h k = rw is k
 
-forced_all_front : (w : World) (p : Planned) (ss : List ℕ) → AllFromOne ss → IsFrontOf p (forced_all w p ss).planned
-forced_all_front w p [] h = front_same p
-forced_all_front w p (s ∷ ss) h =
-    front_joined p (forced w p s).fault (forced w p s) (forced_all w (forced w p s).planned ss) (forced_front w p s h.0) (forced_all_front w (forced w p s).planned ss h.1)
-
 pub answered_front : (w : World) (p : Planned) (a : ℕ) → 1 ≤ a → IsFrontOf p (answered w p a).planned
 answered_front w p a from_one =
     let used = forced_all w p (stmts_used w.script a) in
     let from = wanted_from_one (reverse (take (a - 1) w.script)) (unwrap_or (option_map (λ (c : CheckedStmt). c.uses) (slice_get w.script (a - 1))) []) in
-    front_joined p used.fault used (forced w used.planned a) (forced_all_front w p (stmts_used w.script a) from) (forced_front w used.planned a from_one)
+    joined-front used.fault used (forced w used.planned a) p (front-forced_all w p (stmts_used w.script a) from) (front-forced w used.planned a from_one)
 
 pub answered_all_front : (w : World) (p : Planned) (xs : List ℕ) → AllFromOne xs → IsFrontOf p (answered_all w p xs).planned
-answered_all_front w p [] h = front_same p
+answered_all_front w p [] h = front-same p
 answered_all_front w p (a ∷ xs) h =
-    front_joined p (answered w p a).fault (answered w p a) (answered_all w (answered w p a).planned xs) (answered_front w p a h.0) (answered_all_front w (answered w p a).planned xs h.1)
+    joined-front (answered w p a).fault (answered w p a) (answered_all w (answered w p a).planned xs) p (answered_front w p a h.0) (answered_all_front w (answered w p a).planned xs h.1)
