@@ -1,21 +1,16 @@
 -- Courses of several actions, one after the other.
-use Rattle.std.proofs.Common.{◌≡◌, ℕ, ◌+◌, ◌-◌, ◌≤◌, ◌⊎◌, inl, inr, true, false, Bool, List, [], ◌∷◌, ◌++◌, length, reverse, take, Option, None, Some, refl, sym, ◌∙◌, ap, subst, arith, append_assoc, append-nil, get_or, slice_get, unwrap_or, option_map}
-use Rattle.std.specs.Prelude.{◌==◌, ⊤, is_some}
+use Rattle.std.proofs.Common.{◌≡◌, ℕ, ◌+◌, ◌-◌, ◌≤◌, inl, inr, true, false, Bool, List, [], ◌∷◌, ◌++◌, length, reverse, take, Option, None, Some, refl, sym, ◌∙◌, ap, subst, arith, append_assoc, slice_get, unwrap_or, option_map}
+use Rattle.std.specs.Prelude.{◌==◌}
 use Rattle.std.specs.List.{AllByRecursion, list_any}
 use Rattle.gx_cluster_state.specs.Nets.{Net}
-use Rattle.gx_cluster_state.specs.Runs.{Command, Demand, Passes, Point, Release, Run}
-use Rattle.gx_exec.specs.Courses.{Course, EndsAs, PassesAs, RunsAs, and_then, answered, answered_all, forced, forced_all, joined, phase, phases, still, was_added}
+use Rattle.gx_cluster_state.specs.Runs.{Command, Passes, Point, Run}
+use Rattle.gx_exec.specs.Courses.{Course, and_then, answered, answered_all, forced, forced_all, joined}
 use Rattle.gx_exec.proofs.CourseFaults.{front-forced, front-forced_all}
 use Rattle.gx_exec.proofs.CourseRuns.{front-same, joined-front, passes-here}
 use Rattle.gx_exec_contents.specs.Worlds.{World}
-use Rattle.gx_exec_work.specs.Works.{net_in}
-use Rattle.gx_lineage.specs.declared.node_id.NodeId.{NodeId}
 use Rattle.gx_model.specs.NamesUsed.{stmts_used, stmts_wanted}
 use Rattle.gx_plan.specs.PlanInvariant.{IsFrontOf}
-use Rattle.gx_plan.specs.Plans.{Planned, phases_of, with_number}
-use Rattle.gx_plan.specs.declared.result_nodes.ResultNodes.{ResultNodes}
-use Rattle.gx_plan.proofs.Fronts.{fronts-joined}
-use Rattle.gx_plan.proofs.OneStatement.{added-front}
+use Rattle.gx_plan.specs.Plans.{Planned}
 use Rattle.gx_rows.specs.declared.fault.Fault.{Fault}
 use Rattle.gx_types_stmts.specs.declared.checked_stmt.CheckedStmt.{CheckedStmt}
 

@@ -1,5 +1,5 @@
 -- What was done for some actions, and then for more of them.
-use Rattle.std.proofs.Common.{◌≡◌, ◌≢◌, ℕ, zero, suc, ◌+◌, ◌-◌, ◌≤◌, ◌<◌, true, false, Bool, List, [], ◌∷◌, ◌++◌, length, take, drop, Option, None, Some, refl, sym, ◌∙◌, ap, ap₂, subst, arith, append_assoc, append-nil, length-append, add-one}
+use Rattle.std.proofs.Common.{◌≡◌, ◌≢◌, ℕ, zero, suc, ◌+◌, ◌≤◌, ◌<◌, List, [], ◌∷◌, ◌++◌, length, take, Option, None, Some, refl, sym, ◌∙◌, ap, ap₂, subst, arith, append-nil, length-append}
 use Rattle.std.specs.Prelude.{slice_get}
 use Rattle.std.specs.Io.KnownBytes.{Appends}
 use Rattle.std.specs.List.{concat, range_with_len}
@@ -26,7 +26,7 @@ use Rattle.gx_rows.specs.declared.fault.Fault.{Fault}
 use Rattle.gx_run.specs.ActionLogs.{LogsAs, Moment, StopsInAction, StopsInText, actions_among, actions_of, texts_of}
 use Rattle.gx_run.specs.ActionTexts.{HasPrinted, meaning_of_number}
 use Rattle.gx_run.proofs.ActionsAmong.{actions_after, actions_more, actions_parted, after_from_one, single_from_one}
-use Rattle.gx_exec.proofs.CourseRuns.{passes-all, passes-here, run-then}
+use Rattle.gx_exec.proofs.CourseRuns.{passes-all, run-then}
 use Rattle.gx_run.proofs.ActionCourses.{AllFromOne, answered_all_front, answered_both, passes_after, passes_before}
 use Rattle.gx_run.proofs.PrintedTexts.{appends_both, appends_nothing, number_begins, texts_of_all}
 

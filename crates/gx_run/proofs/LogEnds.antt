@@ -1,12 +1,9 @@
 -- From what was done for the actions to the log of a run, and from that to the clauses of the top call.
-use Rattle.std.proofs.Common.{◌≡◌, ◌≢◌, ◌⊎◌, inl, inr, ℕ, zero, suc, ◌+◌, ◌-◌, ◌≤◌, ◌<◌, true, false, List, [], ◌∷◌, length, map, get_or, replicate, take, Option, None, Some, Result, Ok, Err, refl, sym, ◌∙◌, ap, subst, arith}
+use Rattle.std.proofs.Common.{◌≡◌, ◌≢◌, ◌⊎◌, inl, inr, ℕ, zero, suc, ◌+◌, ◌-◌, false, List, [], ◌∷◌, length, map, get_or, replicate, take, Option, None, Some, Result, Ok, Err, refl, sym, ◌∙◌, ap, subst}
 use Rattle.std.specs.Prelude.{IsSomeAnd, is_some, slice_get}
-use Rattle.std.specs.Map.{lookup}
-use Rattle.gx_cluster.specs.States.{HoldsContents, State, shape}
-use Rattle.gx_cluster_state.specs.Blocks.{same_block}
+use Rattle.gx_cluster.specs.States.{State, shape}
 use Rattle.gx_cluster_state.specs.Runs.{Point}
 use Rattle.gx_cluster_state.specs.Tasks.{task_block}
-use Rattle.gx_cluster_state.specs.declared.running.Running.{Running}
 use Rattle.gx_exec.specs.Courses.{Course, EndsAs, PassesAs, answered_all, was_added}
 use Rattle.gx_exec.specs.Engines.{HoldsWorkOf, point_of}
 use Rattle.gx_exec_contents.specs.Worlds.{World, loaded_in}
@@ -22,9 +19,8 @@ use Rattle.gx_print.specs.declared.status.Status.TheVariants as status
 use Rattle.gx_rows.specs.declared.fault.Fault.{Fault}
 use Rattle.gx_run.specs.ActionLogs.{LogsAs, MayAnswerFrom, actions_of, moment_of, texts_of}
 use Rattle.gx_run.specs.Meaning.{loaded_under}
-use Rattle.gx_run.specs.RunLogs.{CarriesOut, CarriesOutPart, IsFreshEngine, IsStart, LoadsAs, LogEnds, LogsAll, LogsFirst, LogsPart, RunLogs, course_by, start_of, world_of}
+use Rattle.gx_run.specs.RunLogs.{CarriesOut, CarriesOutPart, IsStart, LoadsAs, LogEnds, LogsAll, LogsPart, RunLogs, course_by, start_of, world_of}
 use Rattle.gx_run.specs.Steps.{Reads, Refuses, RefusesUnknown}
-use Rattle.gx_run.proofs.ActionRuns.{ends_passes}
 use Rattle.gx_exec.proofs.CourseRuns.{front-same, passes-all}
 use Rattle.gx_run_args.specs.RunCommands.{RunCommand}
 

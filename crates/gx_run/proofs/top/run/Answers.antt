@@ -1,4 +1,3 @@
-use Rattle.std.proofs.Common.{◌≡◌, rules}
 use Rattle.gx_print.specs.declared.status.Status.TheVariants as status
 use Rattle.gx_run.proofs.LogEnds.{kept_if_refused, log_at, told_logs}
 use Rattle.gx_run.proofs.RunEnds.{no_memory_ends, told_ends}
