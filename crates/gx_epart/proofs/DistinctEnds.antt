@@ -1,5 +1,5 @@
 -- The set of the ends of edges: their order, their direction and their rows do not matter.
-use Rattle.std.proofs.Common.{◌≡◌, Bool, true, false, ◌||◌, List, [], ◌∷◌, IsPermutation, length, map, refl, sym, ap, ◌∙◌, arith}
+use Rattle.std.proofs.Common.{◌≡◌, Bool, true, false, ◌||◌, List, [], ◌∷◌, IsPermutation, length, refl, sym, ap, ◌∙◌, arith}
 use Rattle.std.specs.List.{list_any}
 use Rattle.std.proofs.lemmas.List.Sorted.{list_any-IsPermutation}
 use Rattle.gx_rows.specs.Order.{Edge}
@@ -8,7 +8,7 @@ use Rattle.gx_rows.specs.declared.vid.Vid.{Vid}
 use Rattle.gx_index.specs.Ends.{IsSetOf}
 use Rattle.gx_index.specs.Ids.{has_id, is_same_id}
 use Rattle.gx_epart.specs.declared.local_edge.LocalEdge.{LocalEdge}
-use Rattle.gx_epart.specs.Edges.{reversed_edge, reversed_edges, sources_and_destinations}
+use Rattle.gx_epart.specs.Edges.{reversed_edges, sources_and_destinations}
 use Rattle.gx_epart.specs.Numbers.{edges_of_locals, ends_of_numbers, numbers_with_rows}
 
 -- whether the identifier is an end of the edge

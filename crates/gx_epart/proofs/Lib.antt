@@ -1,6 +1,8 @@
 pub mod Derived
+pub mod Destinations
 pub mod DistinctEnds
 pub mod Ends
+pub mod Lent
 pub mod Locals
 pub mod Numbered
 pub mod Orders

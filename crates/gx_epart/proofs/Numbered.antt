@@ -1,9 +1,7 @@
 -- Edges with the numbers of their ends: one more of them, and all of them sorted.
-use Rattle.std.proofs.Common.{◌≡◌, ℕ, ◌<◌, ◌^◌, IsPermutation, IsSorted, arith, List, [], ◌∷◌, ◌++◌, Some, All, length, map, refl, slice_get, pos}
-use Rattle.std.proofs.lemmas.List.{append_assoc, map-append}
-use Rattle.std.proofs.lemmas.List.Elements.{All-push, All-tail}
-use Rattle.std.proofs.lemmas.Option.{get_or_from_slice_get, slice_get_within}
-use Rattle.gx_rows.specs.Order.{Edge, edge_cmp}
+use Rattle.std.proofs.Common.{◌≡◌, ℕ, ◌<◌, ◌^◌, IsPermutation, IsSorted, arith, List, Some, All, length, map, slice_get, pos}
+use Rattle.std.proofs.lemmas.Option.{get_or_from_slice_get}
+use Rattle.gx_rows.specs.Order.{edge_cmp}
 use Rattle.gx_rows.specs.declared.value.Value.{Value}
 use Rattle.gx_rows.specs.declared.vid.Vid.{Vid}
 use Rattle.std.proofs.lemmas.List.Sorted.{All-permutation, IsPermutation-map}
@@ -13,25 +11,13 @@ use Rattle.gx_epart.specs.declared.local_edge.LocalEdge.{LocalEdge}
 use Rattle.gx_epart.specs.declared.extent.Extent.{Extent}
 use Rattle.gx_epart.specs.declared.extent.Extent.TheVariants.{Exact}
 use Rattle.gx_epart.specs.Edges.{IsEdgeOrderOf}
-use Rattle.gx_epart.specs.Numbers.{HasEdges, HasIds, HasKnownEnds, edge_of_numbers, edges_of_locals, ends_of_numbers, id_of_number, locals_of}
+use Rattle.gx_epart.specs.Numbers.{HasEdges, HasIds, edge_of_numbers, edges_of_locals, ends_of_numbers, id_of_number, locals_of}
 use Rattle.gx_epart.proofs.DistinctEnds.{IsSetOf-permuted}
 use Rattle.gx_epart.proofs.Locals.{IsInRange-of, edges_of_locals-of, length-locals_of}
 use Rattle.gx_epart.proofs.Orders.{IsSorted-edge_of_numbers, numbered_cmp}
 
-id_of_number-at : (ids : List Vid) (n : ℕ) (v : Vid) → slice_get ids n ≡ Some v → id_of_number ids n ≡ v
+pub id_of_number-at : (ids : List Vid) (n : ℕ) (v : Vid) → slice_get ids n ≡ Some v → id_of_number ids n ≡ v
 id_of_number-at ids n v at = get_or_from_slice_get ids n v (record { 0 = pos 0 }) at
-
-pub numbered-more : (ids : List Vid) (edges rest after : List Edge) (numbered more : List (ℕ × ℕ × List Value)) (e : Edge) (src dst : ℕ)
-    → (map (edge_of_numbers ids) numbered ++ rest ≡ edges) × All (HasIds ids) numbered × All (HasKnownEnds ids) rest
-    → rest ≡ e ∷ after → slice_get ids src ≡ Some e.0 → slice_get ids dst ≡ Some e.1 → more ≡ numbered ++ (src, dst, e.2) ∷ []
-    → (map (edge_of_numbers ids) more ++ after ≡ edges) × All (HasIds ids) more × All (HasKnownEnds ids) after
-numbered-more ids edges rest after numbered more e src dst so_far first at_src at_dst pushed =
-    let so_far = rw first at so_far in
-    let this : edge_of_numbers ids (src, dst, e.2) ≡ e = rw (id_of_number-at ids src e.0 at_src, id_of_number-at ids dst e.1 at_dst) refl in (
-      rw (pushed, map-append, append_assoc, this) so_far.0,
-      rw pushed (All-push (HasIds ids) numbered (src, dst, e.2) so_far.1 (slice_get_within ids src e.0 at_src, slice_get_within ids dst e.1 at_dst)),
-      All-tail (HasKnownEnds ids) e after so_far.2,
-    )
 
 module _ (ids : List Vid) (es : List (ℕ × ℕ × List Value)) (rows : List (List Value)) (locals : List LocalEdge)
     (rows_are : rows ≡ map (λ e. e.2) es) (locals_are : locals ≡ locals_of es) where

@@ -45,7 +45,7 @@ cmp-numbers ids a b ascending left right =
 abbrev pub numbered_cmp : ℕ × ℕ × List Value → ℕ × ℕ × List Value → Ordering
 numbered_cmp = then_cmp (then_cmp (on (λ e. e.0) nat_cmp) (on (λ e. e.1) nat_cmp)) (on (λ e. e.2) row_cmp)
 
-then-assoc : (r s t : Ordering) → ordering_then r (ordering_then s t) ≡ ordering_then (ordering_then r s) t
+pub then-assoc : (r s t : Ordering) → ordering_then r (ordering_then s t) ≡ ordering_then (ordering_then r s) t
 then-assoc Less s t = refl
 then-assoc Equal s t = refl
 then-assoc Greater s t = refl

@@ -7,6 +7,7 @@ use Rattle.gx_rows.specs.declared.row_key.RowKey.TheVariants as row_key
 use Rattle.gx_rows.specs.declared.value.Value.{Value}
 use Rattle.gx_rows.specs.declared.value.Value.TheVariants.{Int}
 use Rattle.gx_rows.specs.declared.vid.Vid.{Vid}
+use denote.Ref.{Bor}
 
 -- the same edges, equal ones repeated, by source, then by destination, then by row
 pub record IsEdgeOrderOf (edges ordered : List Edge) : Type 0 where
@@ -22,6 +23,10 @@ with_edge e (f ∷ edges) = cond (is_lt (edge_cmp e f)) (e ∷ f ∷ edges) (f �
 abbrev pub edge_order_of : List Edge → List Edge
 edge_order_of [] = []
 edge_order_of (e ∷ edges) = with_edge e (edge_order_of edges)
+
+-- edges whose rows are lent
+abbrev pub edges_lent : List (Vid × Vid × Bor (List Value)) → List Edge
+edges_lent edges = map (λ e. (e.0, e.1, e.2.now)) edges
 
 -- source and destination of an edge
 abbrev pub ends_of_edge : Edge → Vid × Vid

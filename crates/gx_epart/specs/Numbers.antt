@@ -1,5 +1,5 @@
 -- Edges by numbers: an end by its position among the ends, a row by its position among the rows.
-use Rattle.std.specs.Prelude.{◌≡◌, ℕ, pos, ◌+◌, ◌<◌, ◌^◌, true, List, [], ◌∷◌, All, IsSorted, length, map, Option, Some, None, ⊤, refl, slice_get, slice_index_or}
+use Rattle.std.specs.Prelude.{◌≡◌, ℕ, pos, ◌+◌, ◌<◌, ◌^◌, true, List, [], ◌∷◌, All, IsSorted, get_or, length, map, Some, refl, slice_get, slice_index_or}
 use Rattle.gx_rows.specs.Order.{Edge, edge_cmp}
 use Rattle.gx_rows.specs.declared.value.Value.{Value}
 use Rattle.gx_rows.specs.declared.vid.Vid.{Vid}
@@ -41,10 +41,19 @@ IsInRange ids rows e = (e.src < length ids) × (e.dst < length ids) × (e.row < 
 abbrev pub HasKnownEnds : List Vid → Edge → Type 0
 HasKnownEnds ids e = (has_id e.0 ids ≡ true) × (has_id e.1 ids ≡ true)
 
--- the number, if there is one, is that of the identifier beside it
-abbrev pub HasItsNumber : List Vid → Option (Vid × ℕ) → Type 0
-HasItsNumber ids None = ⊤
-HasItsNumber ids (Some last) = slice_get ids last.1 ≡ Some last.0
+-- the row of each edge
+abbrev pub rows_of : List Edge → List (List Value)
+rows_of edges = map (λ e. e.2) edges
+
+-- the destination of each edge with its position, from position n on
+abbrev pub destinations_from : ℕ → List Edge → List (Vid × ℕ)
+destinations_from n [] = []
+destinations_from n (e ∷ edges) = (e.1, n) ∷ destinations_from (n + 1) edges
+
+-- the numbers are those of the destinations
+pub record HasDestinations (ids : List Vid) (edges : List Edge) (numbers : List ℕ) : Type 0 where
+  pub count : length numbers ≡ length edges
+  pub each : (i : ℕ) (e : Edge) → slice_get edges i ≡ Some e → slice_get ids (get_or numbers i 0) ≡ Some e.1
 
 -- the ends of each edge, with the position of its row, from position n on
 abbrev pub locals_from : {R : Type 0} → ℕ → List (ℕ × ℕ × R) → List LocalEdge

@@ -3,11 +3,14 @@
 ghost use Rattle.std.specs.Prelude.{◌≡◌, ◌<◌, ◌^◌, IfOk, IfSome, IsPermutation, IsSorted, Some, length, slice_get, vec_len};
 ghost use Rattle.gx_rows.specs.Order.{edge_cmp};
 ghost use Rattle.gx_index.specs.Ends.{IsEndsOf, IsSetOf};
-ghost use Rattle.gx_epart.specs.Edges.{IsEdgeOrderOf, ends_of_edges, reversed_edges, sources_and_destinations};
+ghost use Rattle.gx_epart.specs.declared.extent.Extent.TheVariants.{Exact};
+ghost use Rattle.gx_epart.specs.Numbers.{HasEdges, edges_of_locals};
+ghost use Rattle.gx_epart.specs.Edges.{IsEdgeOrderOf, edges_lent, ends_of_edges, reversed_edges, sources_and_destinations};
 
+use crate::copies::{lent, local_edges, row_copies};
 use crate::extent::Extent;
 use crate::local_edge::LocalEdge;
-use crate::numbering::{index_of_ends, number_ends, pack};
+use crate::numbering::index_of_ends;
 use crate::traverse::turned;
 use gx_index::{Ends, Index};
 use gx_rows::{NoMemory, Row, Vid};
@@ -47,15 +50,33 @@ impl EPart {
     /// # Errors
     ///
     /// `NoMemory` if memory for the partition runs out, or if the edges have 2^32 ends or more.
-    pub fn from_edges(alloc: Global, mut edges: Vec<(Vid, Vid, Row)>) -> Result<EPart, NoMemory>
+    pub fn from_edges(alloc: Global, edges: Vec<(Vid, Vid, Row)>) -> Result<EPart, NoMemory>
         requires few { vec_len edges < 2 ^ 32 }
         ensures sorted { IfOk result (IsSorted edge_cmp) }
         ensures same { IfOk result (IsPermutation edges.items) }
     {
+        EPart::from_lent(alloc, lent(alloc, edges.as_slice())?)
+    }
+
+    /// The partition of these edges, which are in any order and may repeat, with a copy of each row.
+    ///
+    /// # Errors
+    ///
+    /// `NoMemory` if memory for the partition runs out, or if the edges have 2^32 ends or more.
+    pub fn from_lent(
+        alloc: Global,
+        mut edges: Vec<(Vid, Vid, &Row)>,
+    ) -> Result<EPart, NoMemory>
+        requires { vec_len edges < 2 ^ 32 }
+        ensures { IfOk result (IsEdgeOrderOf (edges_lent edges.entry.items)) }
+    {
+        // References are sorted, and each row is copied to where it is kept.
         edges.sort_unstable();
-        let ends = index_of_ends(alloc, edges.as_slice())?;
-        let numbered = number_ends(alloc, &ends, edges)?;
-        pack(alloc, Rc::new(alloc, ends)?, Extent::Exact, numbered)
+        let ordered = edges.as_slice();
+        let ends = index_of_ends(alloc, ordered)?;
+        let locals = local_edges(alloc, &ends, ordered)?;
+        let rows = row_copies(alloc, ordered)?;
+        with_exact_ends(alloc, ends, locals, rows)
     }
 
     /// The number of edges.
@@ -128,4 +149,21 @@ impl EPart {
             rows,
         })
     }
+}
+
+fn with_exact_ends(
+    alloc: Global,
+    ends: Index,
+    edges: Vec<LocalEdge>,
+    rows: Vec<Row>,
+) -> Result<EPart, NoMemory>
+    requires { HasEdges Exact ends rows.items edges.items }
+    ensures { IfOk result (λ part. part ≡ edges_of_locals ends rows.items edges.items) }
+{
+    Ok(EPart {
+        ends: Rc::new(alloc, ends)?,
+        extent: Extent::Exact,
+        edges,
+        rows: Rc::new(alloc, rows)?,
+    })
 }

@@ -9,6 +9,7 @@
 //! never sees rows of vertices, expressions or other partitions of the same graph.
 #![tactic(auto)]
 
+mod copies;
 mod epart;
 mod extent;
 mod laws;

@@ -4,9 +4,9 @@ ghost use Rattle.std.specs.Prelude.{◌≡◌, ◌<◌, ◌^◌, All, IfOk, IsSo
 ghost use Rattle.gx_rows.specs.Order.{edge_cmp};
 ghost use Rattle.gx_index.specs.Ends.{IsSetOf};
 ghost use Rattle.gx_index.specs.Ids.{IsAscending, has_id};
-ghost use Rattle.gx_epart.specs.Edges.{IsEdgeOrderOf, sources_and_destinations};
+ghost use Rattle.gx_epart.specs.Edges.{IsEdgeOrderOf, edges_lent, sources_and_destinations};
 ghost use Rattle.gx_epart.specs.declared.extent.Extent.TheVariants.{Exact};
-ghost use Rattle.gx_epart.specs.Numbers.{HasIds, HasKnownEnds, HasItsNumber, edge_of_numbers, ends_of_numbers, locals_of};
+ghost use Rattle.gx_epart.specs.Numbers.{HasIds, HasKnownEnds, edge_of_numbers, ends_of_numbers, locals_of};
 
 use crate::EPart;
 use crate::extent::Extent;
@@ -17,10 +17,10 @@ use std::alloc::Global;
 use std::rc::Rc;
 
 /// The distinct ends of edges in ascending order.
-pub fn index_of_ends(alloc: Global, edges: &[(Vid, Vid, Row)]) -> Result<Index, NoMemory>
+pub fn index_of_ends(alloc: Global, edges: &[(Vid, Vid, &Row)]) -> Result<Index, NoMemory>
     ensures ascending { IfOk result (λ ends. IsAscending ends) }
-    ensures exact { IfOk result (IsSetOf (sources_and_destinations edges.now)) }
-    ensures all_ends { IfOk result (λ ends. All (HasKnownEnds ends) edges.now) }
+    ensures exact { IfOk result (IsSetOf (sources_and_destinations (edges_lent edges.now))) }
+    ensures all_ends { IfOk result (λ ends. All (HasKnownEnds ends) (edges_lent edges.now)) }
 {
     let ids = ids_of_ends(alloc, edges)?;
     let set = IdSet::of(alloc, ids.as_slice())?;
@@ -30,8 +30,8 @@ pub fn index_of_ends(alloc: Global, edges: &[(Vid, Vid, Row)]) -> Result<Index, 
     Index::of(alloc, set.ids())
 }
 
-fn ids_of_ends(alloc: Global, edges: &[(Vid, Vid, Row)]) -> Result<Vec<Vid>, NoMemory>
-    ensures { IfOk result (λ ids. ids.items ≡ sources_and_destinations edges.now) }
+fn ids_of_ends(alloc: Global, edges: &[(Vid, Vid, &Row)]) -> Result<Vec<Vid>, NoMemory>
+    ensures { IfOk result (λ ids. ids.items ≡ sources_and_destinations (edges_lent edges.now)) }
 {
     let mut ids = Vec::new(alloc);
     let mut rest = edges;
@@ -43,37 +43,22 @@ fn ids_of_ends(alloc: Global, edges: &[(Vid, Vid, Row)]) -> Result<Vec<Vid>, NoM
     Ok(ids)
 }
 
-/// Each edge with the numbers of its ends. A destination is found by halving, and a source too unless
-/// it is that of the edge before.
-pub fn number_ends(
-    alloc: Global,
-    ends: &Index,
-    edges: Vec<(Vid, Vid, Row)>,
-) -> Result<Vec<(u32, u32, Row)>, NoMemory>
-    requires { All (HasKnownEnds ends.now) edges.items }
-    ensures numbers { IfOk result (λ es. map (edge_of_numbers ends.now) es.items ≡ edges.items) }
-    ensures in_range { IfOk result (λ es. All (HasIds ends.now) es.items) }
-{
-    let mut numbered = Vec::with_capacity(alloc, edges.len())?;
-    let mut last = None;
-    for (src, dst, row) in edges {
-        let source = number_after(ends, last, src);
-        numbered.push((source, number_of(ends, dst), row))?;
-        last = Some((src, source));
-    }
-    Ok(numbered)
-}
-
-// The number of `v`, if the last identifier and its number are these.
-fn number_after(ends: &Index, last: Option<(Vid, u32)>, v: Vid) -> u32
-    requires known { has_id v ends.now ≡ true }
-    requires numbered { HasItsNumber ends.now last }
+/// The number of `v`. The identifiers from the number `from` on are looked at one by one, so that
+/// identifiers that ascend are numbered in one pass over the ends.
+pub fn number_from(ends: &Index, from: u32, v: Vid) -> u32
+    requires { has_id v ends.now ≡ true }
     ensures { slice_get ends.now result ≡ Some v }
 {
-    if let Some((id, number)) = last {
+    let mut number = from;
+    while number < ends.len() {
+        let id = ends.id_at(number);
         if id == v {
             return number;
         }
+        if v < id {
+            break;
+        }
+        number += 1;
     }
     number_of(ends, v)
 }

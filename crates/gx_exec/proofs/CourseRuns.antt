@@ -35,11 +35,11 @@ pub run-then : (n : Net) (cs ds : List Command) (p q r : Point) → Run n cs p q
 run-then n [] ds p q r a b = subst (λ x. Run n ds x r) a b
 run-then n (c ∷ cs) ds p q r a b = (a.0, a.1, run-then n cs ds a.0 q r a.2 b)
 
-passes-then : (n : Net) (cs ds : List Command) (p q r : Point) → Run n cs p q → Passes n ds q r → Passes n (cs ++ ds) p r
+pub passes-then : (n : Net) (cs ds : List Command) (p q r : Point) → Run n cs p q → Passes n ds q r → Passes n (cs ++ ds) p r
 passes-then n [] ds p q r a b = subst (λ x. Passes n ds x r) a b
 passes-then n (c ∷ cs) ds p q r a b = inr (a.0, a.1, passes-then n cs ds a.0 q r a.2 b)
 
-passes-front : (n : Net) (cs ds : List Command) (p q : Point) → Passes n cs p q → Passes n (cs ++ ds) p q
+pub passes-front : (n : Net) (cs ds : List Command) (p q : Point) → Passes n cs p q → Passes n (cs ++ ds) p q
 passes-front n [] ds p q a = subst (λ x. Passes n ds p x) (sym a) (passes-here n ds p)
 passes-front n (c ∷ cs) ds p q (inl a) = inl a
 passes-front n (c ∷ cs) ds p q (inr a) = inr (a.0, a.1, passes-front n cs ds a.0 q a.2)

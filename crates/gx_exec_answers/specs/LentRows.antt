@@ -17,7 +17,3 @@ edges_in_parts parts = flat_map (λ p. p.now) parts
 -- vertices whose rows are lent
 abbrev pub vertices_lent : List (Vid × Bor (List Value)) → List Vertex
 vertices_lent vertices = map (λ v. (v.0, v.1.now)) vertices
-
--- edges whose rows are lent
-abbrev pub edges_lent : List (Vid × Vid × Bor (List Value)) → List Edge
-edges_lent edges = map (λ e. (e.0, e.1, e.2.now)) edges

@@ -3,10 +3,10 @@
 ghost use Rattle.std.specs.Prelude.{◌≡◌, ◌∷◌, ◌++◌, IfOk, OnOk, map};
 ghost use Rattle.std.specs.Option.{option_copied};
 ghost use Rattle.gx_rows.specs.declared.value.Value.TheVariants.{Int};
-ghost use Rattle.gx_epart.specs.Edges.{edge_order_of};
+ghost use Rattle.gx_epart.specs.Edges.{edge_order_of, edges_lent};
 ghost use Rattle.gx_model.specs.ActionAnswers.{edges_answer as answer_with_edges};
 ghost use Rattle.gx_exec_answers.specs.AnswerRows.{answer_record, rows_of_edges};
-ghost use Rattle.gx_exec_answers.specs.LentRows.{edges_in_parts, edges_lent};
+ghost use Rattle.gx_exec_answers.specs.LentRows.{edges_in_parts};
 
 use crate::answer::Answer;
 use crate::lists::{append, append_names, append_values};
@@ -19,7 +19,8 @@ use std::alloc::Global;
 ///
 /// # Errors
 ///
-/// `NoMemory` if memory for the answer runs out, or for a list of references to the edges.
+/// `NoMemory` if memory for the answer runs out, or for a list of references to the edges of two or
+/// more partitions.
 pub fn edges_answer(
     alloc: Global,
     columns: Option<&RowType>,
@@ -32,9 +33,32 @@ pub fn edges_answer(
     append(&mut header, Text::of(alloc, "src")?)?;
     append(&mut header, Text::of(alloc, "dst")?)?;
     append_names(alloc, &mut header, columns)?;
-    let ordered = in_edge_order(alloc, parts)?;
-    let rows = edge_rows(alloc, ordered.as_slice())?;
+    let rows = ordered_rows(alloc, parts)?;
     Ok(Answer { header, rows })
+}
+
+// The rows of the edges of all partitions in edge order, in which those of one partition are.
+fn ordered_rows(alloc: Global, parts: &[&EPart]) -> Result<Vec<Vec<Value>>, NoMemory>
+    ensures { IfOk result (λ rows. map (λ row. row.items) rows.items
+        ≡ rows_of_edges (edge_order_of (edges_in_parts parts.now))) }
+{
+    match parts {
+        [part] => rows_of_part(alloc, *part),
+        _ => edge_rows(alloc, in_edge_order(alloc, parts)?.as_slice()),
+    }
+}
+
+fn rows_of_part(alloc: Global, part: &EPart) -> Result<Vec<Vec<Value>>, NoMemory>
+    ensures { IfOk result (λ rows.
+        map (λ row. row.items) rows.items ≡ rows_of_edges (edge_order_of part.now)) }
+{
+    edge_order_is_unique();
+    let mut rows = Vec::with_capacity(alloc, part.len() as usize)?;
+    for i in 0..part.len() {
+        let (src, dst, row) = part.edge(i);
+        append(&mut rows, edge_row(alloc, src, dst, row)?)?;
+    }
+    Ok(rows)
 }
 
 // The edges of all partitions in edge order, borrowed. A stable sort merges partitions, each of

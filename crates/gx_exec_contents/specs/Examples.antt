@@ -11,6 +11,7 @@ use Rattle.gx_cuts.specs.declared.cut.Cut.TheVariants.{OneD, Rows}
 use Rattle.gx_lineage.specs.declared.block_id.BlockId.{BlockId}
 use Rattle.gx_model.specs.ScriptMeaning.{plain_values}
 use Rattle.gx_model.specs.Values.{value_named}
+use Rattle.gx_plan.specs.PlanLaws.{MovesByEnds}
 use Rattle.gx_plan.specs.Plans.{Planned, empty_plan, with_number}
 use Rattle.gx_plan.specs.Recipes.{recipe_of}
 use Rattle.gx_plan.specs.declared.kind.Kind.TheVariants as kind
@@ -26,7 +27,7 @@ use Rattle.gx_vtable.specs.NewRows.{vertex_id}
 use Rattle.gx_exec_contents.specs.BlockContents.{content_of, stop_of}
 use Rattle.gx_exec_contents.specs.MadeBlocks.{made_by, made_kind, vertices_kept, vertices_made}
 use Rattle.gx_exec_contents.specs.PartContents.{BlockStop, Content, Edges, Stopped, Table}
-use Rattle.gx_exec_contents.specs.Worlds.{MovesByEnds, World, loaded_in, placed_values, value_in}
+use Rattle.gx_exec_contents.specs.Worlds.{World, loaded_in, placed_values, value_in}
 
 vertex : ℕ → Vid
 vertex n = record { 0 = pos n }

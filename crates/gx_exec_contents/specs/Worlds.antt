@@ -1,14 +1,13 @@
 -- What a run of a script is given, and the value of each statement with the places of edges.
-use Rattle.std.specs.Prelude.{◌≡◌, ◌≢◌, ℕ, ◌<◌, true, false, Bool, All, List, map, ⊤}
+use Rattle.std.specs.Prelude.{◌≡◌, ℕ, ◌<◌, true, false, Bool, All, List, map}
 use Rattle.gx_cuts.specs.Places.{place_of}
 use Rattle.gx_cuts.specs.declared.cut.Cut.{Cut}
-use Rattle.gx_cuts.specs.declared.cut.Cut.TheVariants.{Rows}
 use Rattle.gx_lineage.specs.Lineage.{IsSound}
 use Rattle.gx_model.specs.Graphs.{Graph, Placement}
 use Rattle.gx_model.specs.ScriptMeaning.{Loaded}
 use Rattle.gx_model.specs.Values.{LoadedRows, value_named, values_of_script}
 use Rattle.gx_plan.specs.PlanInvariant.{IsPlan}
-use Rattle.gx_plan.specs.PlanLaws.{HasSorts}
+use Rattle.gx_plan.specs.PlanLaws.{HasSorts, MovesByEnds}
 use Rattle.gx_plan.specs.Plans.{Planned}
 use Rattle.gx_plan.specs.StmtNodes.{statement_of}
 use Rattle.gx_rows.specs.Order.{Edge}
@@ -71,11 +70,6 @@ is_modelled (stmts.CountVertices g) = true
 is_modelled (stmts.CountEdges g) = true
 is_modelled (stmts.CountTable t) = true
 is_modelled _ = false
-
--- an edge that a statement moves has its place by its ends alone, since it has no ordinal
-abbrev pub MovesByEnds : TypedStmt → Type 0
-MovesByEnds (stmts.Partition g cut) = cut ≢ Rows
-MovesByEnds _ = ⊤
 
 -- a script that may be run: it names earlier statements of the right sorts, and the model has their values
 pub record IsWorld (w : World) : Type 0 where

@@ -1,7 +1,8 @@
-//! Copies of the rows at given positions.
+//! The rows at given positions, copied or lent.
 
 ghost use Rattle.std.specs.Prelude.{◌≡◌, ◌∷◌, ◌++◌, IfOk, OnOk, [], map, slice_get};
 ghost use Rattle.std.specs.Option.{option_copied};
+ghost use Rattle.gx_epart.specs.Edges.{edges_lent};
 ghost use Rattle.gx_exec_loads.specs.Filing.{items_at, vertex_of_row};
 
 use gx_rows::{NoMemory, Row, Vid};
@@ -39,13 +40,13 @@ fn append_vertex(
     }
 }
 
-/// Source, destination and row of each row at these positions.
-pub(crate) fn edges_at(
+/// Source, destination and row of each row at these positions. The rows are lent.
+pub(crate) fn edges_at<'a>(
     alloc: Global,
-    rows: &[(Vid, Vid, Row)],
+    rows: &'a [(Vid, Vid, Row)],
     positions: &[u32],
-) -> Result<Vec<(Vid, Vid, Row)>, NoMemory>
-    ensures { IfOk result (λ es. es.items ≡ items_at rows.now positions.now) }
+) -> Result<Vec<(Vid, Vid, &'a Row)>, NoMemory>
+    ensures { IfOk result (λ es. edges_lent es.items ≡ items_at rows.now positions.now) }
 {
     let mut edges = Vec::with_capacity(alloc, positions.len())?;
     let mut rest = positions;
@@ -56,15 +57,16 @@ pub(crate) fn edges_at(
     Ok(edges)
 }
 
-fn append_edge(
-    edges: &mut Vec<(Vid, Vid, Row)>,
-    rows: &[(Vid, Vid, Row)],
+fn append_edge<'a>(
+    edges: &mut Vec<(Vid, Vid, &'a Row)>,
+    rows: &'a [(Vid, Vid, Row)],
     n: u32,
 ) -> Result<(), NoMemory>
-    ensures { OnOk result (edges.new.items ≡ edges.old.items ++ items_at rows.now (n ∷ [])) }
+    ensures { OnOk result (edges_lent edges.new.items
+        ≡ edges_lent edges.old.items ++ items_at rows.now (n ∷ [])) }
 {
     match row_at(rows, n) {
-        Some(row) => append(edges, (row.0, row.1, row.2.copy()?)),
+        Some(row) => append(edges, (row.0, row.1, &row.2)),
         None => Ok(()),
     }
 }

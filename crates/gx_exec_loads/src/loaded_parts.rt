@@ -132,7 +132,7 @@ impl LoadedParts {
             return Err(NoMemory);
         }
         edge_order_is_unique();
-        EPart::from_edges(self.alloc, edges)
+        EPart::from_lent(self.alloc, edges)
     }
 
     // The rows that statement `s` loaded, and the positions of those in a part.

@@ -1,7 +1,6 @@
 -- A script that is well typed may be run.
 use Rattle.std.proofs.Common.{◌≡◌, ℕ, ◌-◌, ◌<◌, true, All, List, Option, Some, None, option_map, slice_get, unwrap_or, refl}
 use Rattle.gx_exec_contents.specs.Worlds.{IsWorld, World, is_modelled}
-use Rattle.gx_exec_contents.specs.Worlds as worlds
 use Rattle.gx_plan.specs.PlanLaws.{HasSorts, MoveByEnds, MovesByEnds}
 use Rattle.gx_plan.specs.StmtNodes.{statement_of}
 use Rattle.gx_types.specs.Built.{is_run}
@@ -34,10 +33,6 @@ run-modelled (stmts.CountEdges g) run = refl
 run-modelled (stmts.CountTable t) run = refl
 run-modelled _ run = cc
 
-moves-alike : (st : TypedStmt) → MovesByEnds st → worlds.MovesByEnds st
-moves-alike (stmts.Partition g cut) by_ends = by_ends
-moves-alike _ by_ends = tt
-
 -- what holds of each statement, by its number
 at-number : (P : TypedStmt → Type 0) → P (stmts.CountTable 0) → (script : List CheckedStmt) → ((i : ℕ) (t : CheckedStmt) → slice_get script i ≡ Some t → P t.stmt) → (s : ℕ) → P (statement_of script s)
 at-number P none script all s = by (slice_get script (s - 1)) refl
@@ -53,5 +48,5 @@ world-runs w some_parts earlier named sorts run by_ends = record {
   named = named;
   sorts = sorts;
   modelled = at-number (λ st. is_modelled st ≡ true) refl w.script (λ i t at. run-modelled t.stmt (run i t at));
-  by_ends = λ s. moves-alike (statement_of w.script s) (at-number MovesByEnds tt w.script by_ends s);
+  by_ends = at-number MovesByEnds tt w.script by_ends;
 }

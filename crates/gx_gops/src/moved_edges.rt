@@ -2,9 +2,9 @@
 
 ghost use Rattle.std.specs.Prelude.{◌≡◌, ◌≢◌, ◌<◌, IfOk};
 ghost use Rattle.gx_cuts.specs.declared.cut.Cut.TheVariants as cut_of;
-ghost use Rattle.gx_epart.specs.Edges.{IsEdgeOrderOf};
+ghost use Rattle.gx_epart.specs.Edges.{IsEdgeOrderOf, edges_lent};
 ghost use Rattle.gx_gops.specs.AllEdges.{edges_of_parts};
-ghost use Rattle.gx_gops.specs.Moving.{edges_placed_in, is_placed_in as is_placed};
+ghost use Rattle.gx_gops.specs.Moving.{edges_placed_in as placed_edges, is_placed_in as is_placed};
 
 use crate::all_edges::AllEdges;
 use crate::lists::append;
@@ -30,34 +30,34 @@ pub fn move_edges(
     requires by_ends { cut ≢ cut_of.Rows }
     requires in_range { part < parts }
     ensures { IfOk result
-        (IsEdgeOrderOf (edges_placed_in cut part parts (edges_of_parts edges.now))) }
+        (IsEdgeOrderOf (placed_edges cut part parts (edges_of_parts edges.now))) }
 {
-    let mut moved = copies_placed_in(alloc, edges, cut, part, parts)?;
+    let mut moved = edges_placed_in(alloc, edges, cut, part, parts)?;
     if moved.len() > u32::MAX as usize {
         return Err(NoMemory);
     }
     // The edges of each partition are in order, and a stable sort merges them. So the sort in
-    // `from_edges` is one pass.
+    // `from_lent` is one pass.
     moved.sort()?;
-    EPart::from_edges(alloc, moved)
+    EPart::from_lent(alloc, moved)
 }
 
-// The edges that the cut places in the partition, in their order.
-fn copies_placed_in(
+// The edges that the cut places in the partition, in their order, with their rows lent.
+fn edges_placed_in<'a>(
     alloc: Global,
-    edges: &[Rc<EPart>],
+    edges: &'a [Rc<EPart>],
     cut: Cut,
     part: u32,
     parts: u32,
-) -> Result<Vec<(Vid, Vid, Row)>, NoMemory>
+) -> Result<Vec<(Vid, Vid, &'a Row)>, NoMemory>
     requires { part < parts }
-    ensures { IfOk result (λ placed.
-        placed.items ≡ edges_placed_in cut part parts (edges_of_parts edges.now)) }
+    ensures { IfOk result (λ placed. edges_lent placed.items
+        ≡ placed_edges cut part parts (edges_of_parts edges.now)) }
 {
     let mut placed = Vec::new(alloc);
     'edges: for (src, dst, row) in AllEdges::of(edges) {
         if is_placed_in(cut, part, parts, src, dst) {
-            append(&mut placed, (src, dst, row.copy()?))?;
+            append(&mut placed, (src, dst, row))?;
         }
     }
     Ok(placed)

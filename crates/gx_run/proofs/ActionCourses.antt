@@ -6,24 +6,13 @@ use Rattle.gx_cluster_state.specs.Nets.{Net}
 use Rattle.gx_cluster_state.specs.Runs.{Command, Passes, Point, Run}
 use Rattle.gx_exec.specs.Courses.{Course, and_then, answered, answered_all, forced, forced_all, joined}
 use Rattle.gx_exec.proofs.CourseFaults.{front-forced, front-forced_all}
-use Rattle.gx_exec.proofs.CourseRuns.{front-same, joined-front, passes-here}
+use Rattle.gx_exec.proofs.CourseRuns.{front-same, joined-front}
 use Rattle.gx_exec_contents.specs.Worlds.{World}
 use Rattle.gx_model.specs.NamesUsed.{stmts_used, stmts_wanted}
 use Rattle.gx_plan.specs.PlanInvariant.{IsFrontOf}
 use Rattle.gx_plan.specs.Plans.{Planned}
 use Rattle.gx_rows.specs.declared.fault.Fault.{Fault}
 use Rattle.gx_types_stmts.specs.declared.checked_stmt.CheckedStmt.{CheckedStmt}
-
--- ---- runs of commands
-
-pub passes_after : (n : Net) (cs ds : List Command) (p m q : Point) → Run n cs p m → Passes n ds m q → Passes n (cs ++ ds) p q
-passes_after n [] ds p m q h k = subst (λ (x : Point). Passes n ds x q) h k
-passes_after n (c ∷ cs) ds p m q h k = inr (h.0, h.1, passes_after n cs ds h.0 m q h.2 k)
-
-pub passes_before : (n : Net) (cs ds : List Command) (p q : Point) → Passes n cs p q → Passes n (cs ++ ds) p q
-passes_before n [] ds p q h = subst (λ (x : Point). Passes n ds p x) (sym h) (passes-here n ds p)
-passes_before n (c ∷ cs) ds p q (inl part) = inl part
-passes_before n (c ∷ cs) ds p q (inr more) = inr (more.0, more.1, passes_before n cs ds more.0 q more.2)
 
 -- ---- courses
 

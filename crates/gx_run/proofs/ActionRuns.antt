@@ -26,8 +26,8 @@ use Rattle.gx_rows.specs.declared.fault.Fault.{Fault}
 use Rattle.gx_run.specs.ActionLogs.{LogsAs, Moment, StopsInAction, StopsInText, actions_among, actions_of, texts_of}
 use Rattle.gx_run.specs.ActionTexts.{HasPrinted, meaning_of_number}
 use Rattle.gx_run.proofs.ActionsAmong.{actions_after, actions_more, actions_parted, after_from_one, single_from_one}
-use Rattle.gx_exec.proofs.CourseRuns.{passes-all, run-then}
-use Rattle.gx_run.proofs.ActionCourses.{AllFromOne, answered_all_front, answered_both, passes_after, passes_before}
+use Rattle.gx_exec.proofs.CourseRuns.{passes-all, passes-front, passes-then, run-then}
+use Rattle.gx_run.proofs.ActionCourses.{AllFromOne, answered_all_front, answered_both}
 use Rattle.gx_run.proofs.PrintedTexts.{appends_both, appends_nothing, number_begins, texts_of_all}
 
 -- ---- one course after another
@@ -55,7 +55,7 @@ passes_on : (w : World) (c : Course) (f : Planned → Course) (mid : Planned) (p
 passes_on w c f mid p m q front h k =
     let before : IsFrontOf c.planned (f mid).planned = subst (λ (x : Planned). IsFrontOf x (f mid).planned) h.planned front in
     subst (λ (d : Course). PassesAs w d p q) (sym (goes_on c f mid h.fault h.planned))
-    (λ o on. passes_after (net_in w o) c.commands (f mid).commands p m q
+    (λ o on. passes-then (net_in w o) c.commands (f mid).commands p m q
     (h.run o (fronts-joined c.planned (f mid).planned o before on)) (k o on))
 
 -- a course that stops with a fault, or part-way, before another
@@ -71,7 +71,7 @@ passes_first w c f p q front h = by_fault c.fault refl
     by_fault (Some e) is = subst (λ (d : Course). PassesAs w d p q) (sym (stops c f e is)) h
     by_fault None is =
         subst (λ (d : Course). PassesAs w d p q) (sym (goes_on c f c.planned is refl))
-        (λ o on. passes_before (net_in w o) c.commands (f c.planned).commands p q
+        (λ o on. passes-front (net_in w o) c.commands (f c.planned).commands p q
         (h o (fronts-joined c.planned (f c.planned).planned o front on)))
 
 pub ends_passes : (w : World) (c : Course) (stop : Option Fault) (left : Planned) (p q : Point) → EndsAs w c stop left p q → PassesAs w c p q

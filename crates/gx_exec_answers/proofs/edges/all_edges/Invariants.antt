@@ -1,5 +1,6 @@
 use Rattle.std.proofs.Common.{◌≡◌, ◌++◌, length}
-use Rattle.gx_exec_answers.specs.LentRows.{edges_in_parts, edges_lent}
+use Rattle.gx_epart.specs.Edges.{edges_lent}
+use Rattle.gx_exec_answers.specs.LentRows.{edges_in_parts}
 use Rattle.gx_exec_answers.proofs.edges.all_edges.Given as goal
 
 -- the edges so far and those of the rest are all edges

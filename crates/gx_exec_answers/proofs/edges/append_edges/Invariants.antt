@@ -1,5 +1,5 @@
 use Rattle.std.proofs.Common.{◌≡◌, ◌++◌, drop}
-use Rattle.gx_exec_answers.specs.LentRows.{edges_lent}
+use Rattle.gx_epart.specs.Edges.{edges_lent}
 use Rattle.gx_exec_answers.proofs.edges.append_edges.Given as goal
 
 -- the edges so far and those from position i on are all edges

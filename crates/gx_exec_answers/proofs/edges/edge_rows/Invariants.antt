@@ -1,6 +1,6 @@
 use Rattle.std.proofs.Common.{◌≡◌, ◌++◌, length, map}
 use Rattle.gx_exec_answers.specs.AnswerRows.{rows_of_edges}
-use Rattle.gx_exec_answers.specs.LentRows.{edges_lent}
+use Rattle.gx_epart.specs.Edges.{edges_lent}
 use Rattle.gx_exec_answers.proofs.edges.edge_rows.Given as goal
 
 -- the rows so far and those of the rest are all rows
