@@ -121,11 +121,11 @@ module _ (ids : List Vid) (edges : List Edge) (i : ℕ) (e : Edge) (at : slice_g
       let local : LocalEdge = record { src = src; dst = dst; row = i } in
       let row : slice_get rows i ≡ Some e.2 = rw at at (slice_get-map (λ e. e.2) edges i) in
       let this : edge_of_local ids rows local ≡ e =
-          rw (id_of_number-at ids src e.0 at_src, id_of_number-at ids dst e.1 at_dst, get_or_from_slice_get rows i e.2 [] row) refl in
+      rw (id_of_number-at ids src e.0 at_src, id_of_number-at ids dst e.1 at_dst, get_or_from_slice_get rows i e.2 [] row) refl in
       let first : drop i edges ≡ e ∷ drop (i + 1) edges = drop-at edges i e at in (
         rw (pushed, map-append, append_assoc, this) (rw first at so_far.0),
         rw pushed (All-push (IsInRange ids rows) locals local so_far.1
-          (slice_get_within ids src e.0 at_src, slice_get_within ids dst e.1 at_dst, slice_get_within rows i e.2 row)),
+            (slice_get_within ids src e.0 at_src, slice_get_within ids dst e.1 at_dst, slice_get_within rows i e.2 row)),
       )
 
 -- the number at the position of an edge is that of its destination

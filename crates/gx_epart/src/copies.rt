@@ -83,10 +83,7 @@ fn destination_numbers(
 }
 
 // The destination of each edge, with its position.
-fn destinations_of(
-    alloc: Global,
-    edges: &[(Vid, Vid, &Row)],
-) -> Result<Vec<(Vid, u32)>, NoMemory>
+fn destinations_of(alloc: Global, edges: &[(Vid, Vid, &Row)]) -> Result<Vec<(Vid, u32)>, NoMemory>
     requires { length edges.now < 2 ^ 32 }
     ensures { IfOk result (λ ds. ds.items ≡ destinations_from 0 (edges_lent edges.now)) }
 {

@@ -63,10 +63,7 @@ impl EPart {
     /// # Errors
     ///
     /// `NoMemory` if memory for the partition runs out, or if the edges have 2^32 ends or more.
-    pub fn from_lent(
-        alloc: Global,
-        mut edges: Vec<(Vid, Vid, &Row)>,
-    ) -> Result<EPart, NoMemory>
+    pub fn from_lent(alloc: Global, mut edges: Vec<(Vid, Vid, &Row)>) -> Result<EPart, NoMemory>
         requires { vec_len edges < 2 ^ 32 }
         ensures { IfOk result (IsEdgeOrderOf (edges_lent edges.entry.items)) }
     {

@@ -52,4 +52,3 @@ pub returns : goal.returns
 returns c =
     let none : length (into_iter_items c.loop-id.id-iterator) ≡ 0 = search rules in
     HasDestinations-numbered c.args.ends.now (edges_lent c.args.edges.now) (into_iter_items c.loop-id.id-iterator) none c.loop-id.numbers.items c.loop-id.invariant.0 c.loop-id.invariant.2
-

@@ -16,7 +16,7 @@ loop-i-preserved c =
     let values = c.in_ok-edge_row.field-0 in
     let row : Edge → List Value = λ e. Int e.0.0 ∷ Int e.1.0 ∷ e.2 in
     let at : slice_get (rows_of_edges part) c.loop-i.i ≡ Some values.items =
-        rw c.edge.ensures at (slice_get-map row part c.loop-i.i) ∙ ap Some (sym c.in_ok-edge_row.ensures) in
+    rw c.edge.ensures at (slice_get-map row part c.loop-i.i) ∙ ap Some (sym c.in_ok-edge_row.ensures) in
     seen-moved (λ row. row.items) c.loop-i.rows.items c.append.new.items.items (rows_of_edges part) (rows_of_edges part) c.loop-i.i values at c.in_ok-append.ensures c.loop-i.invariant
 
 pub returns : goal.returns

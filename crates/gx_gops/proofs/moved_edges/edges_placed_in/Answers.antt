@@ -10,7 +10,7 @@ pub edges-preserved-in-Continue-1 : goal.edges-preserved-in-Continue-1
 edges-preserved-in-Continue-1 c =
     let e : Edge = (c.in-Some.src, c.in-Some.dst, c.in-Some.row.now) in
     let pushed : edges_lent c.append.new.items.items ≡ edges_lent c.edges.placed.items ++ e ∷ [] =
-        ap edges_lent c.in_ok-append.ensures ∙ map_push {Y = Edge} (λ e. (e.0, e.1, e.2.now)) c.edges.placed.items (c.in-Some.src, c.in-Some.dst, c.in-Some.row) in
+    ap edges_lent c.in_ok-append.ensures ∙ map_push {Y = Edge} (λ e. (e.0, e.1, e.2.now)) c.edges.placed.items (c.in-Some.src, c.in-Some.dst, c.in-Some.row) in
     record {
       can = tt;
       ends = tt;

@@ -22,6 +22,6 @@ returns c =
     let slice = c.as_slice-ordered.ensures.value in
     let order = IsEdgeOrderOf-lent given sorted c.sort_unstable.ensures.permutation c.sort_unstable.ensures.sorted in
     let edges = edges-copied c.in_ok-ends.ends (edges_lent sorted) c.in_ok-rows.rows.items c.in_ok-locals.locals.items
-        (rw slice at c.in_ok-rows.ensures) (rw slice at c.in_ok-locals.ensures.edges) in
+    (rw slice at c.in_ok-rows.ensures) (rw slice at c.in_ok-locals.ensures.edges) in
     IfOk-weaker c.with_exact_ends.result _ (IsEdgeOrderOf (edges_lent given))
     (λ part is. subst (IsEdgeOrderOf (edges_lent given)) (sym (is ∙ edges)) order) c.with_exact_ends.ensures
