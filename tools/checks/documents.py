@@ -1,7 +1,7 @@
 """Checks that the documents are whole, and that sources are documented.
 
-Each crate has a README.md, each link of a document leads somewhere, and each module and public item
-of the sources has a comment that says what it is.
+Each crate has a README.md, each link of a document leads somewhere, each path that HACKING.md names
+exists, and each module and public item of the sources has a comment that says what it is.
 """
 
 import re
@@ -24,6 +24,31 @@ def check_links():
                 continue
             there = (document.parent / target.split("#")[0]).exists()
             judge(f"{document.relative_to(TOP)}, link {target}", None if there else "leads nowhere")
+
+
+PATH = re.compile(r"`((?:gx_\w+|src|specs|proofs|must-fail|docs|tools|examples|bench)/[^`\s]*)`")
+IN_CRATE = ("src", "specs", "proofs", "must-fail")
+PLACEHOLDER = re.compile(r"[A-Z]{4,}|[*{]")
+
+
+def check_paths():
+    """Each path in backticks of HACKING.md exists.
+
+    A path from `src/`, `specs/`, `proofs/` or `must-fail/` is one of the crate that its line names
+    before it. A path with a word in capitals, as NAME, stands for many, and is not looked up.
+    """
+    for line in (TOP / "HACKING.md").read_text().splitlines():
+        crate = None
+        for path in PATH.findall(line):
+            first = path.split("/")[0]
+            folder = TOP
+            if first.startswith("gx_"):
+                crate, folder = first, TOP / "crates"
+            elif first in IN_CRATE and crate:
+                folder = TOP / "crates" / crate
+            if PLACEHOLDER.search(path) or (first in IN_CRATE and crate is None):
+                continue
+            judge(f"HACKING.md, path {path}", None if (folder / path).exists() else "is not there")
 
 
 ITEM = re.compile(r"\s*pub (?:const fn|fn|struct|enum|trait|const|static|type)\b|\s*pub \w+:")
