@@ -8,14 +8,14 @@ use std::io::Write;
 /// A stream of the process, as its standard output. What was written is unknown to contracts.
 /// Faults are counted, and a write that takes nothing of a piece that is not empty is one.
 #[derive(Drop)]
-pub(crate) struct Stream<W: Write + Drop> {
+pub struct Stream<W: Write + Drop> {
     writer: W,
     faults: u64,
 }
 
 impl<W: Write + Drop> Stream<W> {
     /// The stream, before any write.
-    pub(crate) fn new(writer: W) -> Self
+    pub fn new(writer: W) -> Self
         ensures { result.faults ≡ 0 }
     {
         Stream { writer, faults: 0 }

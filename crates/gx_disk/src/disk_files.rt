@@ -10,7 +10,7 @@ use std::{fs, rt};
 /// The files that the operating system has, by their paths. Their contents are unknown to
 /// contracts. Faults are counted, and an absent file is one.
 #[derive(Drop)]
-pub(crate) struct DiskFiles<'a, R: rt::Files>
+pub struct DiskFiles<'a, R: rt::Files>
 where
     R::File: Drop,
 {
@@ -24,7 +24,7 @@ where
     R::File: Drop,
 {
     /// All files of the system, none open.
-    pub(crate) fn new(rt: &'a R) -> Self
+    pub fn new(rt: &'a R) -> Self
         ensures starts_closed { result.open_file ≡ None }
         ensures no_faults_yet { result.faults ≡ 0 }
     {
