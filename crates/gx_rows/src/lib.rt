@@ -10,6 +10,7 @@
 
 mod bounds;
 mod cause;
+mod cut;
 mod direction;
 mod eval_stop;
 mod fault;
@@ -31,6 +32,7 @@ mod vid;
 
 pub use bounds::{MOST_LIST_ENTRIES, MOST_TEXT_BYTES};
 pub use cause::Cause;
+pub use cut::Cut;
 pub use direction::Direction;
 pub use eval_stop::EvalStop;
 pub use fault::Fault;
