@@ -1,7 +1,7 @@
 -- The number of partitions of the edges at one vertex under the two-dimensional cut.
 use Rattle.std.specs.Prelude.{◌≡◌, ℕ, ℤ, ◌<◌, ◌≤◌, ◌⊎◌, List, length}
 use Rattle.std.specs.List.{All, Contains}
-use Rattle.gx_cuts.specs.declared.cut.Cut.TheVariants.{TwoD}
+use Rattle.gx_rows.specs.declared.cut.Cut.TheVariants.{TwoD}
 use Rattle.gx_cuts.specs.Places.{place_of}
 pub use Rattle.gx_cuts.specs.Sides.{IsSide, grid_side}
 

@@ -1,8 +1,8 @@
 -- The partition of an edge under each cut.
 use Rattle.std.specs.Prelude.{◌≡◌, ℕ, ℤ, pos, ◌+◌, ◌*◌, ◌%◌, ◌^◌, refl}
 use Rattle.std.specs.Int.{w64, cast_signed, cast_unsigned, int_min, int_max}
-use Rattle.gx_cuts.specs.declared.cut.Cut.{Cut}
-use Rattle.gx_cuts.specs.declared.cut.Cut.TheVariants.{OneD, TwoD, Random, Canonical, Rows}
+use Rattle.gx_rows.specs.declared.cut.Cut.{Cut}
+use Rattle.gx_rows.specs.declared.cut.Cut.TheVariants.{OneD, TwoD, Random, Canonical, Rows}
 use Rattle.gx_cuts.specs.Mixing.{mix_of}
 use Rattle.gx_cuts.specs.Sides.{grid_side, first_side}
 

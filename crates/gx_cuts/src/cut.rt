@@ -1,4 +1,4 @@
-//! The cuts, and the place of an edge under each: its partition.
+//! The place of an edge under each cut: its partition.
 
 ghost use Rattle.std.specs.Prelude.{◌≡◌, ◌<◌, ◌≤◌, ◌%◌, ◌^◌};
 ghost use Rattle.std.specs.Int.{int_max, int_min};
@@ -6,25 +6,7 @@ ghost use Rattle.gx_cuts.specs.Places.{place_of, random_place};
 
 use crate::grid::two_d_place;
 use crate::mixing::{mix, part_of, vertex_part};
-
-/// The strategy that places edges in partitions. The first four are those of GraphX's
-/// `PartitionStrategy`: `EdgePartition1D`, `EdgePartition2D`, `RandomVertexCut` and
-/// `CanonicalRandomVertexCut`.
-#[derive(Clone, Copy, Debug, PartialEq, Eq)]
-pub enum Cut {
-    /// By the source: the edges that leave a vertex are together.
-    OneD,
-    /// By source and destination on a square grid: the edges at a vertex are in one row and one
-    /// column of the grid.
-    TwoD,
-    /// By source and destination: the edges from one vertex to another are together.
-    Random,
-    /// By the two ends in ascending order: the edges between two vertices are together, in both
-    /// directions.
-    Canonical,
-    /// By the position of the edge in its file.
-    Rows,
-}
+use gx_rows::Cut;
 
 /// The partition of the edge from `src` to `dst` among `parts` partitions. `ordinal` is the
 /// position of the edge in its file, counted from 0.

@@ -1,9 +1,9 @@
-//! Cuts: the partition of a vertex, and the partition of an edge under each strategy.
+//! The partition of a vertex, and the partition of an edge under each cut.
 //!
 //! A partition is a number below the count of partitions, computed from identifiers of 64 bits or
 //! from the position of an edge in its file. Contracts give each result by a definition over whole
-//! numbers modulo 2^64. The crate depends on the standard library alone; partitioned vertices and
-//! edges are built on it. It never sees rows, files or the other edges.
+//! numbers modulo 2^64. The crate depends on `gx_rows` for the names of the cuts alone; partitioned
+//! vertices and edges are built on it. It never sees rows, files or the other edges.
 #![tactic(auto)]
 
 mod cut;
@@ -12,6 +12,6 @@ mod mixing;
 #[cfg(test)]
 mod tests;
 
-pub use cut::{Cut, place};
+pub use cut::place;
 pub use grid::two_d_bound;
 pub use mixing::{mix, vertex_part};

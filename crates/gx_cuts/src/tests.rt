@@ -1,6 +1,7 @@
 //! Hashes and places that were computed apart from this crate.
 
-use crate::{Cut, mix, place, two_d_bound, vertex_part};
+use crate::{mix, place, two_d_bound, vertex_part};
+use gx_rows::Cut;
 
 #[test]
 fn mixes_identifiers(rt: HostRuntime) {

@@ -3,7 +3,7 @@
 --     vertices t from "t" (); count table t;
 use Rattle.std.specs.Prelude.{◌≡◌, ℕ, List, [], ◌∷◌, None, map, refl}
 use Rattle.gx_cluster_state.specs.Runs.{Demand}
-use Rattle.gx_cuts.specs.declared.cut.Cut.TheVariants.{OneD}
+use Rattle.gx_rows.specs.declared.cut.Cut.TheVariants.{OneD}
 use Rattle.gx_exec_contents.specs.Worlds.{World}
 use Rattle.gx_lineage.specs.declared.block_id.BlockId.{BlockId}
 use Rattle.gx_plan.specs.Plans.{Planned, empty_plan}

@@ -27,11 +27,10 @@ ghost use Rattle.gx_lineage.specs.Lineage.{blocks_at};
 ghost use Rattle.gx_model.specs.ScriptMeaning.{stmts_in};
 ghost use Rattle.gx_plan.specs.Plans.{empty_plan, phases_of};
 
-use gx_cuts::Cut;
 use gx_exec_work::GraphWork;
 use gx_lineage::{BlockId, NodeId};
 use gx_load::Loads;
-use gx_rows::NoMemory;
+use gx_rows::{Cut, NoMemory};
 use gx_types::{Typed, TypedStmt};
 use std::alloc::Global;
 use std::marker::Model;

@@ -5,7 +5,7 @@ use Rattle.std.proofs.lemmas.List.{append-nil}
 use Rattle.std.proofs.lemmas.List.Elements.{filter-append}
 use Rattle.std.proofs.lemmas.List.Folds.{flat_map-map}
 use Rattle.gx_cuts.specs.Places.{place_of}
-use Rattle.gx_cuts.specs.declared.cut.Cut.{Cut}
+use Rattle.gx_rows.specs.declared.cut.Cut.{Cut}
 use Rattle.gx_rows.specs.Order.{Edge}
 use Rattle.gx_rows.specs.declared.value.Value.{Value}
 use Rattle.gx_rows.specs.declared.vid.Vid.{Vid}

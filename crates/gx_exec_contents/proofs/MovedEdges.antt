@@ -9,7 +9,7 @@ use Rattle.std.specs.declared.cmp.Ordering.TheVariants.{Less, Equal, Greater}
 use Rattle.std.proofs.lemmas.List.Elements.{filter-append}
 use Rattle.std.proofs.lemmas.List.Sorted.{IsPermutation-append, IsPermutation-cons, IsPermutation-middle, IsPermutation-refl, IsPermutation-sym, IsPermutation-trans}
 use Rattle.gx_cuts.specs.Places.{place_of}
-use Rattle.gx_cuts.specs.declared.cut.Cut.{Cut}
+use Rattle.gx_rows.specs.declared.cut.Cut.{Cut}
 use Rattle.gx_epart.specs.Edges.{edge_order_of, with_edge}
 use Rattle.gx_epart.proofs.Unique.{IsEdgeOrderOf-unique}
 use Rattle.gx_gops.specs.Moving.{edges_placed_in, is_placed_in}

@@ -7,8 +7,8 @@ use Rattle.std.specs.Map.{keys_of}
 use Rattle.std.specs.Result.{result_ok, result_unwrap_or}
 use Rattle.std.proofs.lemmas.Option.{slice_get-map}
 use Rattle.gx_cuts.specs.Places.{place_of}
-use Rattle.gx_cuts.specs.declared.cut.Cut.{Cut}
-use Rattle.gx_cuts.specs.declared.cut.Cut.TheVariants.{OneD, TwoD, Random, Canonical, Rows}
+use Rattle.gx_rows.specs.declared.cut.Cut.{Cut}
+use Rattle.gx_rows.specs.declared.cut.Cut.TheVariants.{OneD, TwoD, Random, Canonical, Rows}
 use Rattle.gx_index.specs.Ids.{IsAscending}
 use Rattle.gx_model.specs.Graphs.{Graph, Placement, ends_in_edges, first_row_of, placed_anew, placed_from, plain_edges}
 use Rattle.gx_model.specs.Values.{LoadedRows, is_other_row, join_row_result, rows_loaded, value_named, value_of_stmt, values_of_stmts, vertex_row_result, vertex_test_result, vertices_in_both, vertices_loaded}

@@ -7,7 +7,7 @@
 -- parts, vertices 1 and 3 are in the first and 2 is in the second, and an edge is where its source is.
 use Rattle.std.specs.Prelude.{◌≡◌, ℕ, pos, false, List, [], ◌∷◌, None, Ok, Err, map, refl}
 use Rattle.gx_cuts.specs.Mixing.{mix_of}
-use Rattle.gx_cuts.specs.declared.cut.Cut.TheVariants.{OneD, Rows}
+use Rattle.gx_rows.specs.declared.cut.Cut.TheVariants.{OneD, Rows}
 use Rattle.gx_lineage.specs.declared.block_id.BlockId.{BlockId}
 use Rattle.gx_model.specs.ScriptMeaning.{plain_values}
 use Rattle.gx_model.specs.Values.{value_named}

@@ -1,6 +1,6 @@
 -- What is made of the contents of a block's inputs.
 use Rattle.std.specs.Prelude.{ℕ, Bool, List, [], ◌∷◌, ◌++◌, flat_map, option_map, Result}
-use Rattle.gx_cuts.specs.declared.cut.Cut.{Cut}
+use Rattle.gx_rows.specs.declared.cut.Cut.{Cut}
 use Rattle.gx_epart.specs.Edges.{edge_order_of}
 use Rattle.gx_exec_contents.specs.PartContents.{Content, Edges, Table, first_given, part_of_edges, part_of_vertices, stop_in, stop_on_vertex, stop_or}
 use Rattle.gx_exec_contents.specs.Worlds.{World, place_in}

@@ -1,7 +1,7 @@
 -- What a run of a script is given, and the value of each statement with the places of edges.
 use Rattle.std.specs.Prelude.{◌≡◌, ℕ, ◌<◌, true, false, Bool, All, List, map}
 use Rattle.gx_cuts.specs.Places.{place_of}
-use Rattle.gx_cuts.specs.declared.cut.Cut.{Cut}
+use Rattle.gx_rows.specs.declared.cut.Cut.{Cut}
 use Rattle.gx_lineage.specs.Lineage.{IsSound}
 use Rattle.gx_model.specs.Graphs.{Graph, Placement}
 use Rattle.gx_model.specs.ScriptMeaning.{Loaded}

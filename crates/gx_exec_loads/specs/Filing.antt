@@ -2,8 +2,8 @@
 use Rattle.std.specs.Prelude.{◌≡◌, ℕ, pos, ◌+◌, ◌<◌, ◌%◌, ◌==◌, if◌then◌else◌, List, [], ◌∷◌, Some, length, get_or, slice_get, filter_map, refl}
 use Rattle.gx_cuts.specs.Mixing.{mix_of}
 use Rattle.gx_cuts.specs.Places.{place_of}
-use Rattle.gx_cuts.specs.declared.cut.Cut.{Cut}
-use Rattle.gx_cuts.specs.declared.cut.Cut.TheVariants.{Rows}
+use Rattle.gx_rows.specs.declared.cut.Cut.{Cut}
+use Rattle.gx_rows.specs.declared.cut.Cut.TheVariants.{Rows}
 use Rattle.gx_exec_contents.specs.Worlds.{World}
 use Rattle.gx_load.specs.Loading.{LoadedRow}
 use Rattle.gx_model.specs.Graphs.{Vertex}

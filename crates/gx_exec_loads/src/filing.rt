@@ -5,9 +5,9 @@ ghost use Rattle.gx_exec_loads.specs.Filing.{IsFiled, kind_in};
 ghost use Rattle.gx_exec_loads.specs.Filing as filing;
 
 use crate::positions::Positions;
-use gx_cuts::{Cut, place, vertex_part};
+use gx_cuts::{place, vertex_part};
 use gx_plan::Kind;
-use gx_rows::{NoMemory, Row, Vid};
+use gx_rows::{Cut, NoMemory, Row, Vid};
 use gx_types::{Typed, TypedStmt};
 use std::alloc::Global;
 

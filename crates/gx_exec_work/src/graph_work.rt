@@ -12,12 +12,11 @@ ghost use Rattle.gx_types_stmts.specs.StmtNumbers.{named_numbers};
 
 use crate::Block;
 use gx_cluster::{Cargo, Work};
-use gx_cuts::Cut;
 use gx_exec_loads::LoadedParts;
 use gx_lineage::{BlockId, Dag};
 use gx_load::Loads;
 use gx_plan::Plan;
-use gx_rows::NoMemory;
+use gx_rows::{Cut, NoMemory};
 use gx_types::Typed;
 use std::alloc::Global;
 use std::marker::Model;

@@ -3,7 +3,7 @@
 ghost use Rattle.std.specs.Prelude.{◌≡◌, ◌≢◌, ◌<◌, ◌++◌, IfOk, List, Option, [], flat_map, option_map, unwrap_or};
 ghost use Rattle.std.specs.Option.{option_copied};
 ghost use Rattle.gx_cluster_state.specs.Values.{pointed_values};
-ghost use Rattle.gx_cuts.specs.declared.cut.Cut.TheVariants as cut_of;
+ghost use Rattle.gx_rows.specs.declared.cut.Cut.TheVariants as cut_of;
 ghost use Rattle.gx_epart.specs.Edges.{edge_order_of};
 ghost use Rattle.gx_exec_contents.specs.MadeBlocks as made;
 ghost use Rattle.gx_exec_contents.specs.MadeBlocks.{edges_held};
@@ -21,11 +21,10 @@ ghost use Rattle.gx_vtable.specs.NewRows.{test_result};
 
 use crate::Block;
 use crate::inputs::{edges_in, first_table, no_vertices, two_tables};
-use gx_cuts::Cut;
 use gx_epart::{EPart, edge_order_is_unique};
 use gx_expr::Expr;
 use gx_gops::{add_missing, move_edges};
-use gx_rows::{NoMemory, PartStop, Row};
+use gx_rows::{Cut, NoMemory, PartStop, Row};
 use gx_vpart::VPart;
 use gx_vtable::{table_filter, table_inner, table_left, table_map};
 use std::alloc::Global;

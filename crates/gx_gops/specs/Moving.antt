@@ -2,8 +2,8 @@
 use Rattle.std.specs.Prelude.{◌≡◌, ◌≢◌, ℕ, ℤ, pos, ◌==◌, Bool, List, [], ◌∷◌, filter, refl}
 use Rattle.gx_rows.specs.Order.{Edge}
 use Rattle.gx_rows.specs.declared.vid.Vid.{Vid}
-use Rattle.gx_cuts.specs.declared.cut.Cut.{Cut}
-use Rattle.gx_cuts.specs.declared.cut.Cut.TheVariants.{OneD, TwoD, Random, Canonical, Rows}
+use Rattle.gx_rows.specs.declared.cut.Cut.{Cut}
+use Rattle.gx_rows.specs.declared.cut.Cut.TheVariants.{OneD, TwoD, Random, Canonical, Rows}
 use Rattle.gx_cuts.specs.Mixing.{mix_of}
 use Rattle.gx_cuts.specs.Places.{place_of}
 

@@ -1,16 +1,16 @@
 //! The edges that move to a partition.
 
 ghost use Rattle.std.specs.Prelude.{◌≡◌, ◌≢◌, ◌<◌, IfOk};
-ghost use Rattle.gx_cuts.specs.declared.cut.Cut.TheVariants as cut_of;
+ghost use Rattle.gx_rows.specs.declared.cut.Cut.TheVariants as cut_of;
 ghost use Rattle.gx_epart.specs.Edges.{IsEdgeOrderOf, edges_lent};
 ghost use Rattle.gx_gops.specs.AllEdges.{edges_of_parts};
 ghost use Rattle.gx_gops.specs.Moving.{edges_placed_in as placed_edges, is_placed_in as is_placed};
 
 use crate::all_edges::AllEdges;
 use crate::lists::append;
-use gx_cuts::{Cut, place};
+use gx_cuts::place;
 use gx_epart::EPart;
-use gx_rows::{NoMemory, Row, Vid};
+use gx_rows::{Cut, NoMemory, Row, Vid};
 use std::alloc::Global;
 use std::rc::Rc;
 

@@ -2,12 +2,11 @@
 //! are in the first of two vertex partitions, and 2 is in the second.
 
 ghost use Rattle.std.specs.Prelude.{◌≢◌, ◌<◌};
-ghost use Rattle.gx_cuts.specs.declared.cut.Cut.TheVariants as cut_of;
+ghost use Rattle.gx_rows.specs.declared.cut.Cut.TheVariants as cut_of;
 
 use crate::{add_missing, move_edges};
-use gx_cuts::Cut;
 use gx_epart::EPart;
-use gx_rows::{NoMemory, Row, Value, Vid};
+use gx_rows::{Cut, NoMemory, Row, Value, Vid};
 use gx_vpart::VPart;
 use std::alloc::Global;
 use std::process::Abort;

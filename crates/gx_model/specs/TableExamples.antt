@@ -3,7 +3,7 @@
 --     s has 1,25; 2,30; 3,35 and u has 2,30; 3,36; 4,0
 use Rattle.std.specs.Prelude.{◌≡◌, ℕ, pos, true, false, List, [], ◌∷◌, None, Some, Ok, slice_get}
 use Rattle.std.proofs.Common.{refl, ◌∙◌, ap₂}
-use Rattle.gx_cuts.specs.declared.cut.Cut.TheVariants.{OneD}
+use Rattle.gx_rows.specs.declared.cut.Cut.TheVariants.{OneD}
 use Rattle.gx_rows.specs.declared.cause.Cause.TheVariants as cause
 use Rattle.gx_rows.specs.declared.row_key.RowKey.TheVariants as row_key
 use Rattle.gx_rows.specs.declared.value.Value.{Value}

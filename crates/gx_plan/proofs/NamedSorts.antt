@@ -4,7 +4,7 @@
 use Rattle.std.proofs.Common.{◌≡◌, ◌≢◌, ℕ, ◌-◌, ◌≤◌, Bool, true, false, Option, Some, None, option_and_then, option_map, unwrap_or, slice_get, List, [], ◌∷◌, refl, sym, ap, subst, arith}
 use Rattle.std.specs.Prelude.{⊤}
 use Rattle.std.specs.List.{AllByRecursion}
-use Rattle.gx_cuts.specs.declared.cut.Cut.TheVariants.{Rows}
+use Rattle.gx_rows.specs.declared.cut.Cut.TheVariants.{Rows}
 use Rattle.gx_types.specs.Built.{is_run}
 use Rattle.gx_types.specs.SoundStmts.{AreRun, HasWrittenCut, HaveWrittenCuts}
 use Rattle.gx_types.specs.StmtSorts.{HasNamedSorts, IsMadeWithin, named_sorts, sort_made, sort_of_number}

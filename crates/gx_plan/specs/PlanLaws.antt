@@ -1,7 +1,7 @@
 -- Laws of plans.
 use Rattle.std.specs.Prelude.{◌≡◌, ◌≢◌, ℕ, ◌<◌, ◌≤◌, ◌-◌, ◌||◌, Bool, true, None, Some, List, get_or, is_some, slice_get, ⊤}
 use Rattle.std.specs.List.{AllByRecursion}
-use Rattle.gx_cuts.specs.declared.cut.Cut.TheVariants.{Rows}
+use Rattle.gx_rows.specs.declared.cut.Cut.TheVariants.{Rows}
 use Rattle.gx_lineage.specs.Lineage.{KeepsInputs}
 use Rattle.gx_types_stmts.specs.declared.checked_stmt.CheckedStmt.{CheckedStmt}
 use Rattle.gx_types_stmts.specs.declared.typed_stmt.TypedStmt.{TypedStmt}

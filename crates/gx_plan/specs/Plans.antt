@@ -2,7 +2,7 @@
 use Rattle.std.specs.Prelude.{◌≡◌, ℕ, ◌+◌, ◌-◌, ◌≤◌, true, if◌then◌else◌, Option, None, Some, List, [], ◌∷◌, ◌++◌, get_or, is_some, length, map, option_map, replicate, set, take, unwrap_or}
 use Rattle.std.specs.List.{flat_map}
 use Rattle.std.specs.Option.{option_or, option_to_list}
-use Rattle.gx_cuts.specs.declared.cut.Cut.{Cut}
+use Rattle.gx_rows.specs.declared.cut.Cut.{Cut}
 use Rattle.gx_lineage.specs.Lineage.{Lineage, first_nodes, with_node}
 use Rattle.gx_lineage.specs.declared.input.Input.{Input}
 use Rattle.gx_lineage.specs.declared.node_id.NodeId.{NodeId}

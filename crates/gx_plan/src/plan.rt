@@ -13,9 +13,8 @@ ghost use Rattle.gx_plan.specs.declared.kind.Kind.TheVariants as kinds;
 
 use crate::stmt_nodes::{demanded_by, own_recipes};
 use crate::{Kind, Recipe, ResultNodes};
-use gx_cuts::Cut;
 use gx_lineage::{Dag, NodeId};
-use gx_rows::NoMemory;
+use gx_rows::{Cut, NoMemory};
 use gx_types::{Typed, TypedStmt};
 use std::alloc::Global;
 use std::marker::Model;

@@ -6,10 +6,9 @@ ghost use Rattle.gx_plan.specs.Plans.{IsAdded};
 ghost use Rattle.gx_types_stmts.specs.StmtBounds.{IsTypable};
 ghost use Rattle.gx_types_stmts.specs.StmtNumbers.{named_numbers};
 
-use gx_cuts::Cut;
 use gx_lineage::{BlockId, NodeId};
 use gx_plan::{Kind, Plan, Recipe};
-use gx_rows::NoMemory;
+use gx_rows::{Cut, NoMemory};
 use gx_syntax::{Script, parse, parsed_scripts_are_bounded, texts_have_one_meaning};
 use gx_types::{Typed, TypedStmt, check, parsed_scripts_are_typable};
 use std::alloc::Global;

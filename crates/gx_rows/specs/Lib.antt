@@ -1,7 +1,9 @@
 pub mod Bounds
 pub mod Cells
+pub mod Chars
 pub mod Columns
 pub mod Kinds
 pub mod Limits
+pub mod ListLaws
 pub mod Order
 pub mod Results

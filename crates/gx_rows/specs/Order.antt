@@ -7,6 +7,8 @@ use Rattle.std.specs.Cmp.Lexicographic.{slice_cmp}
 use Rattle.std.specs.Ordering.{nat_cmp, int_cmp, bool_cmp, ordering_then, on, then_cmp}
 use Rattle.std.proofs.Common.{◌∙◌, subst}
 use Rattle.std.proofs.lemmas.Cmp.{nat_cmp_total, int_cmp_total, nat_list_cmp_total, lists_total, on_total, then_total}
+use Rattle.gx_rows.specs.declared.row_key.RowKey.{RowKey}
+use Rattle.gx_rows.specs.declared.row_key.RowKey.TheVariants as row_key
 use Rattle.gx_rows.specs.declared.value.Value.{Value}
 use Rattle.gx_rows.specs.declared.value.Value.TheVariants.{Int, Text, Bool as Truth, Ids}
 use Rattle.gx_rows.specs.declared.vid.Vid.{Vid}
@@ -37,6 +39,13 @@ row_cmp = slice_cmp value_cmp
 abbrev pub edge_cmp : Edge → Edge → Ordering
 edge_cmp =
     then_cmp (on (λ e. e.0.0) int_cmp) (then_cmp (on (λ e. e.1.0) int_cmp) (on (λ e. e.2) row_cmp))
+
+-- vertices before edges; vertices by identifier, edges by `edge_cmp`
+abbrev pub key_cmp : RowKey → RowKey → Ordering
+key_cmp (row_key.Vertex a) (row_key.Vertex b) = on (λ (v : Vid). v.0) int_cmp a b
+key_cmp (row_key.Vertex a) (row_key.Edge src dst row) = Less
+key_cmp (row_key.Edge src dst row) (row_key.Vertex b) = Greater
+key_cmp (row_key.Edge a b r) (row_key.Edge c d s) = edge_cmp (a, b, r) (c, d, s)
 
 -- ---- the three are total
 

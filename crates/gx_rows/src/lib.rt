@@ -10,12 +10,14 @@
 
 mod bounds;
 mod cause;
+mod cut;
 mod direction;
 mod eval_stop;
 mod fault;
 mod id_list;
 mod laws;
 mod limit_kind;
+mod lists;
 mod no_memory;
 mod part_stop;
 mod row;
@@ -30,12 +32,14 @@ mod vid;
 
 pub use bounds::{MOST_LIST_ENTRIES, MOST_TEXT_BYTES};
 pub use cause::Cause;
+pub use cut::Cut;
 pub use direction::Direction;
 pub use eval_stop::EvalStop;
 pub use fault::Fault;
 pub use id_list::IdList;
 pub use laws::order_is_total;
 pub use limit_kind::LimitKind;
+pub use lists::append;
 pub use no_memory::NoMemory;
 pub use part_stop::PartStop;
 pub use row::Row;

@@ -45,7 +45,17 @@ fn ascending(alloc: Global) -> Result<Vec<Row>, NoMemory> {
     ] {
         rows.push(int_row(alloc, numbers)?)?;
     }
-    for text in ["", "a", "aa", "ab", "b", "z", "ä"] {
+    for text in [
+        "",
+        "a",
+        "aa",
+        "ab",
+        "b",
+        "bbbbbbbbbbbbbbbbbbbbbb",
+        "bbbbbbbbbbbbbbbbbbbbbbb",
+        "z",
+        "ä",
+    ] {
         rows.push(Row::one(text_value(alloc, text)?))?;
     }
     rows.push(Row::two(Value::Bool(false), Value::Bool(true)))?;
@@ -66,7 +76,7 @@ fn ascending(alloc: Global) -> Result<Vec<Row>, NoMemory> {
 fn orders_rows(rt: HostRuntime) -> Result<(), Fail> {
     order_is_total();
     let rows = ascending(rt.alloc())?;
-    assert_eq!(rt; rows.len(), 22);
+    assert_eq!(rt; rows.len(), 24);
     for (i, row) in rows.iter().enumerate() {
         for (j, other) in rows.iter().enumerate() {
             assert_eq!(rt; row.compare(other), i.cmp(&j), "rows {i} and {j}");
@@ -75,7 +85,7 @@ fn orders_rows(rt: HostRuntime) -> Result<(), Fail> {
         assert_eq!(rt; row.copy()?.compare(row), Ordering::Equal, "row {i}");
     }
     let copies = Vec::from_clones(rt.alloc(), rows.as_slice())?;
-    assert_eq!(rt; copies.len(), 22);
+    assert_eq!(rt; copies.len(), 24);
     Ok(())
 }
 

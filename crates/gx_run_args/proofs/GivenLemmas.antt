@@ -5,8 +5,8 @@ use Rattle.std.specs.List.{filter_map}
 use Rattle.std.specs.Option.{is_some, option_and_then, option_map, unwrap_or}
 use Rattle.std.specs.declared.alloc.Global.{Global}
 use Rattle.std.proofs.Math.Seq.{take-length}
-use Rattle.gx_cuts.specs.declared.cut.Cut.{Cut}
-use Rattle.gx_cuts.specs.declared.cut.Cut.TheVariants.{TwoD}
+use Rattle.gx_rows.specs.declared.cut.Cut.{Cut}
+use Rattle.gx_rows.specs.declared.cut.Cut.TheVariants.{TwoD}
 use Rattle.gx_run_args.specs.RunCommands.{Argument, script_name, part_count, edge_cut, worker_count, RunCommand, arg_bytes, arguments_of, command_of, count_value, cut_named, option_reading, script_reading, given_script, given_parts, given_cut, single_value, single_value_or, run_command, with_argument}
 use Rattle.gx_run_args.specs.GivenOptions.{pending_command, joint_command, list_of_option, no_options, options_with, value_reading}
 use Rattle.gx_run_args.specs.declared.options.OptionName.{OptionName}

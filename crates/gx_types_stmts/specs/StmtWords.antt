@@ -1,6 +1,6 @@
 -- What the words of statements stand for.
-use Rattle.gx_cuts.specs.declared.cut.Cut.{Cut}
-use Rattle.gx_cuts.specs.declared.cut.Cut.TheVariants as cut
+use Rattle.gx_rows.specs.declared.cut.Cut.{Cut}
+use Rattle.gx_rows.specs.declared.cut.Cut.TheVariants as cut
 use Rattle.gx_merge.specs.declared.merge_kind.MergeKind.{MergeKind}
 use Rattle.gx_merge.specs.declared.merge_kind.MergeKind.TheVariants as merge
 use Rattle.gx_rows.specs.declared.direction.Direction.{Direction}

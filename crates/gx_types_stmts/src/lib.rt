@@ -3,9 +3,9 @@
 //! The crate takes a statement with its names as they are written, and makes the statement that is
 //! run, in which names are numbers of statements, columns are positions, and expressions are
 //! numbered trees; or it returns the first check that fails. It calls `gx_types_exprs` for each
-//! expression, and depends on `gx_syntax_tree` for what is written and on `gx_expr`, `gx_merge` and
-//! `gx_cuts` for what is made. `gx_types` calls it once for each statement of a script. It never
-//! sees a script, a row or a partition.
+//! expression, and depends on `gx_syntax_tree` for what is written and on `gx_expr` and `gx_merge`
+//! for what is made. `gx_types` calls it once for each statement of a script. It never sees a
+//! script, a row or a partition.
 #![tactic(auto)]
 
 mod body;

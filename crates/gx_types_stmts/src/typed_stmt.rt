@@ -1,10 +1,9 @@
 //! Statements whose types are checked, in the families of `Stmt` and in its order.
 
 use crate::TypedSend;
-use gx_cuts::Cut;
 use gx_expr::Expr;
 use gx_merge::MergeKind;
-use gx_rows::{Direction, Row, Text};
+use gx_rows::{Cut, Direction, Row, Text};
 use sqlite_items::Items;
 
 /// A statement as it is run. A name is the number of the statement that defines it, counted from

@@ -4,9 +4,8 @@ ghost use Rattle.std.specs.Prelude.{◌≡◌};
 ghost use Rattle.gx_types_stmts.specs.StmtWords as words;
 
 use crate::EdgeEnd;
-use gx_cuts::Cut;
 use gx_merge::MergeKind;
-use gx_rows::Direction;
+use gx_rows::{Cut, Direction};
 use gx_syntax_tree::{ActiveWord, CutWord, MergeWord, SideWord};
 
 /// The cut that is written so.
