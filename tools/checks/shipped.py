@@ -6,6 +6,7 @@ note, and not a failure.
 """
 
 import shutil
+import subprocess
 import tempfile
 from pathlib import Path
 
@@ -73,14 +74,68 @@ def check_launcher():
         script = min(clone.glob("examples/*/*.gx"))
         command = [*as_nobody(), "../../../link", "run", script.name]
 
+        for name in (".main.rt.swp", "main.rt~", ".#main.rt", "4913"):
+            (clone / "crates/gx/src" / name).write_text("what an editor leaves\n")
         ended = run(command, script.parent, env=env)
         is_right = ended.stdout == script.with_suffix(".out").read_bytes() and not ended.returncode
         said = f"status {ended.returncode}, {ended.stderr!r}"
         judge("launcher with no toolchain", None if is_right else said)
 
-        with open(clone / "crates/gx/src/main.rt", "a") as source:
-            source.write("\n")
+        change_source(clone)
         ended = run(command, script.parent, env=env)
         is_right = b"put the toolchain's rt on the PATH" in ended.stderr and ended.returncode == 70
         said = f"status {ended.returncode}, {ended.stderr!r}"
         judge("launcher with no toolchain and a changed source", None if is_right else said)
+
+
+def change_source(clone):
+    with open(clone / "crates/gx/src/main.rt", "a") as source:
+        source.write("\n")
+
+
+# Stands for the toolchain: it takes a second, leaves a program, and notes each build.
+RT = """#!/usr/bin/env bash
+[ "$1" = version ] && echo "a toolchain" && exit
+echo "$PWD" >>../../builds
+sleep 1
+cp ../../dist/gx out/gx
+exit 2
+"""
+
+
+def check_lock():
+    """Calls `./gx` three times at once after a change, with a stand-in for the toolchain."""
+    with tempfile.TemporaryDirectory() as folder:
+        clone, env = bare_clone(Path(folder))
+        commands = Path(env["PATH"])
+        for name in ("cp", "env", "flock", "rm", "sleep", "tail"):
+            if not shutil.which(name):
+                return note(f"calls at once are not tried, as there is no {name}")
+            (commands / name).symlink_to(shutil.which(name))
+        (commands / "rt").write_text(RT)
+        (commands / "rt").chmod(0o755)
+        change_source(clone)
+        script = min(clone.glob("examples/*/*.gx"))
+        command = [clone / "gx", "run", script.name]
+        streams = {"stdout": subprocess.PIPE, "stderr": subprocess.PIPE}
+        calls = [subprocess.Popen(command, cwd=script.parent, env=env, **streams) for _ in range(3)]
+        wanted = script.with_suffix(".out").read_bytes()
+        for call in calls:
+            out, err = call.communicate()
+            is_right = out == wanted and call.returncode == 0
+            said = f"status {call.returncode}, {err!r}"
+            judge("launcher, several calls at once", None if is_right else said)
+        builds = (clone / "builds").read_text().count("\n")
+        judge("builds of several calls at once", None if builds == 1 else f"{builds} builds")
+
+
+def check_line_ends():
+    """A clone whose git writes the line ends of Windows has the bytes of this repository."""
+    if not shutil.which("git") or not (TOP / ".git").exists():
+        return note("a clone with other line ends is not tried, as there is no git or no repository")
+    with tempfile.TemporaryDirectory() as folder:
+        clone = Path(folder) / "clone"
+        words = ["-c", "core.autocrlf=true", "-c", "core.eol=crlf", "clone", "-q", TOP, clone]
+        ended = run(["git", *words])
+        is_right = ended.returncode == 0 and b"\r" not in (clone / "gx").read_bytes()
+        judge("a clone with other line ends", None if is_right else f"{ended.stderr!r}")
