@@ -22,8 +22,6 @@ mod row;
 mod row_key;
 mod row_type;
 mod sides;
-#[cfg(test)]
-mod tests;
 mod text;
 mod value;
 mod vid;

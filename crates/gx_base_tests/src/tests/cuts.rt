@@ -1,6 +1,6 @@
 //! Hashes and places that were computed apart from this crate.
 
-use crate::{Cut, mix, place, two_d_bound, vertex_part};
+use gx_cuts::{Cut, mix, place, two_d_bound, vertex_part};
 
 #[test]
 fn mixes_identifiers(rt: HostRuntime) {
