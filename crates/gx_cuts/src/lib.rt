@@ -9,8 +9,6 @@
 mod cut;
 mod grid;
 mod mixing;
-#[cfg(test)]
-mod tests;
 
 pub use cut::place;
 pub use grid::two_d_bound;

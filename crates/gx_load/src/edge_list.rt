@@ -91,6 +91,3 @@ pub fn edge_list_of(
     }
     Ok(rows)
 }
-
-#[cfg(test)]
-mod tests;

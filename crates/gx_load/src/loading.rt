@@ -67,6 +67,3 @@ pub fn rows_of(
     let header = Header::of(alloc, keys, columns, &fields)?;
     rows_from(alloc, &header, &mut records, &mut fields)
 }
-
-#[cfg(test)]
-mod tests;

@@ -5,7 +5,7 @@
 //! the fakes `MemFiles` and `MemSink` do; of a real device nothing is known but its count of
 //! faults. The crate depends on `gx_rows` for `NoMemory`. The loader reads through `Files`, the top
 //! call writes through `Sink`. The crate never sees a real file or stream: those adapters are in
-//! the program.
+//! `gx_disk`.
 #![tactic(auto)]
 
 mod calls;
@@ -14,8 +14,6 @@ mod files;
 mod mem_files;
 mod mem_sink;
 mod sink;
-#[cfg(test)]
-mod tests;
 mod writing;
 
 pub use failed::Failed;

@@ -12,8 +12,6 @@ mod lines;
 mod rows;
 mod status;
 mod status_lines;
-#[cfg(test)]
-mod tests;
 mod wording;
 
 pub use gx_load::{CellKind, RowStop};

@@ -24,8 +24,6 @@ mod row;
 mod row_key;
 mod row_type;
 mod sides;
-#[cfg(test)]
-mod tests;
 mod text;
 mod value;
 mod vid;

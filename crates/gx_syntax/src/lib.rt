@@ -12,8 +12,6 @@ mod laws;
 mod parser;
 mod round_trip;
 mod syntax_stop;
-#[cfg(test)]
-mod tests;
 
 pub use gx_syntax_show::show;
 pub use gx_syntax_tokens::{SyntaxKind, Token, TokenKind, Tokens};

@@ -24,8 +24,6 @@ mod messages;
 mod script;
 mod statement;
 mod tables;
-#[cfg(test)]
-mod tests;
 mod words;
 
 pub use laws::{shown_expressions_are_canonical, shown_scripts_are_canonical};

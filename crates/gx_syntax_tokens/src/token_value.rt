@@ -110,34 +110,3 @@ pub fn unescape(alloc: Global, raw: &str) -> Result<Text, NoMemory>
     }
     Text::from_string(alloc, value_of(alloc, raw)?)
 }
-
-#[cfg(test)]
-mod tests {
-    use super::*;
-    use std::test::Fail;
-
-    #[test]
-    fn lists_the_tokens(rt: HostRuntime) -> Result<(), Fail> {
-        let (tokens, end) = lex(rt.alloc(), "f = g ;")?;
-        assert_eq!(rt; tokens.len(), 4);
-        assert!(rt; tokens[1].value.is(Symbol::Assign));
-        assert!(rt; !tokens[3].value.is(Symbol::Comma));
-        assert!(rt; matches!(end, LexEnd::Eof(7)));
-        Ok(())
-    }
-
-    #[test]
-    fn takes_escapes(rt: HostRuntime) -> Result<(), Fail> {
-        let cases = [
-            ("", ""),
-            ("é b", "é b"),
-            ("a\\\"b\\\\\\n", "a\"b\\\n"),
-            ("\\té\\r", "\té\r"),
-        ];
-        for (raw, expected) in cases {
-            let value = unescape(rt.alloc(), raw)?;
-            assert_eq!(rt; value.as_str(), expected, "at {raw:?}");
-        }
-        Ok(())
-    }
-}

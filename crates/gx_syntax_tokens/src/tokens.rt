@@ -67,6 +67,3 @@ impl<'a> Tokens<'a> {
         }
     }
 }
-
-#[cfg(test)]
-mod tests;

@@ -212,28 +212,3 @@ impl Writer {
         Text::from_string(self.alloc, self.out)
     }
 }
-
-#[cfg(test)]
-mod tests {
-    use super::*;
-    use std::test::Fail;
-
-    #[test]
-    fn writes_lines(rt: HostRuntime) -> Result<(), Fail> {
-        let mut out = Writer::new(rt.alloc());
-        out.word("x")?;
-        out.symbol(Symbol::Assign)?;
-        out.function("f")?;
-        out.symbol(Symbol::OpenParen)?;
-        out.sign()?;
-        out.number(70)?;
-        out.symbol(Symbol::Comma)?;
-        out.quoted("é\"\n")?;
-        out.symbol(Symbol::CloseParen)?;
-        out.end_line()?;
-        out.word("y")?;
-        let text = out.into_text()?;
-        assert_eq!(rt; text.as_str(), "x = f(-70, \"é\\\"\\n\")\ny");
-        Ok(())
-    }
-}

@@ -1,5 +1,5 @@
 use Rattle.std.proofs.Common.{length}
-use Rattle.gx_syntax_tokens.proofs.tokens.tests.spelled.Given as goal
+use Rattle.gx_syntax_tests.proofs.tests.tokens.spelled.Given as goal
 
 abbrev pub decreases-loop-token : goal.decreases-loop-token
 decreases-loop-token l = length l.tokens.rest.tokens

@@ -1,11 +1,11 @@
-//! What loading returns, over tables of texts.
+//! What loading a CSV text returns, over tables of texts.
 
 ghost use Rattle.std.specs.Prelude.{◌≡◌, ◌⊎◌, length, IfOk};
 ghost use Rattle.std.specs.List.{IsDistinct};
 
-use super::*;
-use crate::CellKind;
-use gx_rows::{MOST_TEXT_BYTES, Text, Value, ValueKind};
+use gx_load::{CellKind, LoadStop, RowStop, rows_of};
+use gx_rows::{MOST_TEXT_BYTES, NoMemory, Row, RowType, Text, Value, ValueKind, Vid};
+use std::alloc::Global;
 use std::process::Abort;
 use std::test::Fail;
 
@@ -77,6 +77,30 @@ fn assert_loads(
 {
     let text = loaded_text(rt, alloc, bytes, keys, (ValueKind::Int, ValueKind::Int))?;
     assert_eq!(rt; text.as_str(), expected, "at {bytes:?}");
+    Ok(())
+}
+
+// With two text columns, which show each byte of a field.
+#[test]
+fn takes_each_record(rt: HostRuntime) -> Result<(), Fail> {
+    let texts = [
+        ("\n\r\n", "Data(Header(0))"),
+        ("\u{feff}id,a,b\n1, 25,x\n", "1 0 ' 25' 'x';"),
+        (
+            "id,a,b\r\n\r\n1,b,c\r2,,d",
+            "1 0 'b' 'c';2 0 '' 'd';",
+        ),
+        (
+            "id,a,b\n1,b,\"c,\"\"d\"\n2,,",
+            "1 0 'b' 'c,\"d';2 0 '' '';",
+        ),
+        ("id,a,b\r\n\r\n1,b\r", "Data(Shape(1))"),
+    ];
+    let kinds = (ValueKind::Text, ValueKind::Text);
+    for (text, expected) in texts {
+        let found = loaded_text(&rt, rt.alloc(), text.as_bytes(), 1, kinds)?;
+        assert_eq!(rt; found.as_str(), expected, "at {text:?}");
+    }
     Ok(())
 }
 

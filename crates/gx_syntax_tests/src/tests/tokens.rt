@@ -1,7 +1,8 @@
-//! Tables of texts with their tokens and their refused offsets, and the limits.
+//! Tables of texts with their tokens and their refused offsets, the limits, escapes, and what is
+//! written of tokens.
 
-use super::*;
 use gx_rows::NoMemory;
+use gx_syntax_tokens::{LexEnd, Symbol, Tokens, Writer, lex, unescape};
 use std::alloc::Global;
 use std::test::Fail;
 
@@ -123,5 +124,49 @@ fn keeps_the_limits(rt: HostRuntime) -> Result<(), Fail> {
         let found = first_len(rt.alloc(), prefix, unit, count, suffix)?;
         assert_eq!(rt; found.as_str(), expected, "at {count} of {unit:?}");
     }
+    Ok(())
+}
+
+#[test]
+fn lists_the_tokens(rt: HostRuntime) -> Result<(), Fail> {
+    let (tokens, end) = lex(rt.alloc(), "f = g ;")?;
+    assert_eq!(rt; tokens.len(), 4);
+    assert!(rt; tokens[1].value.is(Symbol::Assign));
+    assert!(rt; !tokens[3].value.is(Symbol::Comma));
+    assert!(rt; matches!(end, LexEnd::Eof(7)));
+    Ok(())
+}
+
+#[test]
+fn takes_escapes(rt: HostRuntime) -> Result<(), Fail> {
+    let cases = [
+        ("", ""),
+        ("é b", "é b"),
+        ("a\\\"b\\\\\\n", "a\"b\\\n"),
+        ("\\té\\r", "\té\r"),
+    ];
+    for (raw, expected) in cases {
+        let value = unescape(rt.alloc(), raw)?;
+        assert_eq!(rt; value.as_str(), expected, "at {raw:?}");
+    }
+    Ok(())
+}
+
+#[test]
+fn writes_lines(rt: HostRuntime) -> Result<(), Fail> {
+    let mut out = Writer::new(rt.alloc());
+    out.word("x")?;
+    out.symbol(Symbol::Assign)?;
+    out.function("f")?;
+    out.symbol(Symbol::OpenParen)?;
+    out.sign()?;
+    out.number(70)?;
+    out.symbol(Symbol::Comma)?;
+    out.quoted("é\"\n")?;
+    out.symbol(Symbol::CloseParen)?;
+    out.end_line()?;
+    out.word("y")?;
+    let text = out.into_text()?;
+    assert_eq!(rt; text.as_str(), "x = f(-70, \"é\\\"\\n\")\ny");
     Ok(())
 }

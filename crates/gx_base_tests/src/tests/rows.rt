@@ -4,7 +4,7 @@
 ghost use Rattle.std.specs.Prelude.{IsPermutation, IsSorted};
 ghost use Rattle.gx_rows.specs.Order.{value_cmp, row_cmp, edge_cmp};
 
-use crate::{IdList, LimitKind, NoMemory, Row, Text, Value, ValueKind, Vid, order_is_total};
+use gx_rows::{IdList, LimitKind, NoMemory, Row, Text, Value, ValueKind, Vid, order_is_total};
 use std::alloc::Global;
 use std::cmp::Ordering;
 use std::test::Fail;

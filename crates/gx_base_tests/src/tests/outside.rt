@@ -2,7 +2,7 @@
 
 ghost use Rattle.std.specs.Prelude.{◌≡◌, ◌≤◌, true, is_some};
 
-use crate::{Failed, Files, MemFiles, MemSink, Sink, write_all};
+use gx_outside::{Failed, Files, MemFiles, MemSink, Sink, write_all};
 use gx_rows::NoMemory;
 use std::alloc::{AllocError, Global};
 use std::process::Abort;

@@ -1,7 +1,7 @@
 //! Texts that are printed for scripts made by hand.
 
-use crate::show;
 use gx_rows::{NoMemory, Text};
+use gx_syntax_show::show;
 use gx_syntax_tree::{BinaryOp, ColumnConst, Const, Expr, Script, Stmt, UnaryOp};
 use sqlite_items::{Boxed, Items};
 use std::alloc::Global;

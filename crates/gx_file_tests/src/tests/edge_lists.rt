@@ -1,6 +1,8 @@
 //! Edge lists with their edges, or the line that is refused.
 
-use super::*;
+use gx_load::edge_list_of;
+use gx_rows::{NoMemory, Value};
+use std::alloc::Global;
 use std::process::Abort;
 use std::test::Fail;
 

@@ -1,7 +1,7 @@
 //! Helpers of the tests: texts to outcomes, long texts, and the tables' loops.
 
-use crate::{Script, SyntaxStop, parse, show};
 use gx_rows::NoMemory;
+use gx_syntax::{Script, SyntaxStop, parse, show};
 use std::alloc::Global;
 use std::process::Abort;
 use std::test::Fail;

@@ -1,6 +1,6 @@
 //! Hashes and places that were computed apart from this crate.
 
-use crate::{mix, place, two_d_bound, vertex_part};
+use gx_cuts::{mix, place, two_d_bound, vertex_part};
 use gx_rows::Cut;
 
 #[test]

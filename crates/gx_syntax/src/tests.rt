@@ -1,9 +1,0 @@
-//! Tables of texts with what `parse` and `show` return for them. The expected values are from the
-//! rules of the language and by hand.
-
-mod levels;
-mod limits;
-mod refusals;
-mod shown;
-mod statements;
-mod support;
