@@ -1,20 +1,8 @@
 //! A graph of two nodes: the inputs of a block, and the graph truncated to its first node.
 
-use crate::{BlockId, Dag, Input, NodeId, NodeKind, Pattern};
-use gx_rows::NoMemory;
-use std::process::Abort;
+use super::support::add;
+use gx_lineage::{BlockId, Dag, Input, NodeId, NodeKind, Pattern};
 use std::test::Fail;
-
-fn add(
-    rt: &impl Abort,
-    dag: &mut Dag,
-    kind: NodeKind,
-    inputs: &[Input],
-) -> Result<NodeId, NoMemory> {
-    let len = dag.len();
-    assert!(rt; len < u64::MAX && inputs.iter().all(|x| x.node.0 < len));
-    dag.add(kind, inputs)
-}
 
 #[test]
 fn lists_inputs_and_truncates(rt: HostRuntime) -> Result<(), Fail> {

@@ -4,7 +4,8 @@ ghost use Rattle.std.specs.Prelude.{◌≡◌, [], All};
 ghost use Rattle.gx_lineage.specs.Lineage.{IsBlock};
 ghost use Rattle.gx_cluster.specs.States.{HoldsContents};
 
-use crate::{Cargo, Cluster, Events, LogEntry, Work};
+use super::support::add;
+use gx_cluster::{Cargo, Cluster, Events, LogEntry, Work};
 use gx_lineage::{BlockId, Dag, Input, NodeId, NodeKind, Pattern};
 use gx_rows::NoMemory;
 use std::alloc::Global;
@@ -64,13 +65,6 @@ fn has_turns(cluster: &Cluster<u64>, turns: &[Turn]) -> bool {
             .all(|(entry, turn)| turn_of(entry) == *turn)
 }
 
-fn add(rt: &impl Abort, dag: &mut Dag, inputs: &[Input]) -> Result<(), NoMemory> {
-    let len = dag.len();
-    assert!(rt; len < u64::MAX && inputs.iter().all(|x| x.node.0 < len));
-    dag.add(NodeKind::Vertices, inputs)?;
-    Ok(())
-}
-
 // A diamond: node 3 depends on nodes 1 and 2, and both on node 0.
 fn diamond(rt: &impl Abort, alloc: Global) -> Result<Dag, NoMemory> {
     let same = |node: u64| Input {
@@ -82,10 +76,10 @@ fn diamond(rt: &impl Abort, alloc: Global) -> Result<Dag, NoMemory> {
         pattern: Pattern::All,
     };
     let mut dag = Dag::new(alloc, 2);
-    add(rt, &mut dag, &[])?;
-    add(rt, &mut dag, &[same(0)])?;
-    add(rt, &mut dag, &[all(0)])?;
-    add(rt, &mut dag, &[same(1), all(2)])?;
+    add(rt, &mut dag, NodeKind::Vertices, &[])?;
+    add(rt, &mut dag, NodeKind::Vertices, &[same(0)])?;
+    add(rt, &mut dag, NodeKind::Vertices, &[all(0)])?;
+    add(rt, &mut dag, NodeKind::Vertices, &[same(1), all(2)])?;
     Ok(dag)
 }
 
@@ -106,7 +100,7 @@ fn run(rt: &impl Abort, alloc: Global, dag: Dag, workers: u32) -> Result<Cluster
 #[test]
 fn two_workers_share_a_node(rt: HostRuntime) -> Result<(), Fail> {
     let mut dag = Dag::new(rt.alloc(), 2);
-    add(&rt, &mut dag, &[])?;
+    add(&rt, &mut dag, NodeKind::Vertices, &[])?;
     let cluster = run(&rt, rt.alloc(), dag, 2)?;
     assert!(rt;
         has_turns(
