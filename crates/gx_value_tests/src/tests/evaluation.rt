@@ -4,7 +4,7 @@
 ghost use Rattle.std.specs.Prelude.{[], None, Some};
 ghost use Rattle.gx_expr.specs.declared.side.Side.TheVariants.{Vertex};
 
-use crate::{BinaryOp, Expr, Function, Scope, Side, UnaryOp, eval, eval_row, truth};
+use gx_expr::{BinaryOp, Expr, Function, Scope, Side, UnaryOp, eval, eval_row, truth};
 use gx_rows::{Cause, EvalStop, IdList, NoMemory, Row, Text, Value, Vid};
 use sqlite_items::{Boxed, Items};
 use std::alloc::Global;
@@ -108,10 +108,6 @@ fn call_if(alloc: Global, condition: Expr, a: Expr, b: Expr) -> Result<Expr, NoM
     Ok(Expr::Call(3, Function::If, Items::from_vec(arguments)))
 }
 
-fn assert_case(rt: &impl Abort, alloc: Global, i: usize, case: &Case, scope: &Sample) {
-    assert_eq!(rt; eval(alloc, &case.0, scope), case.1, "case {i}");
-}
-
 #[test]
 fn computes_numbers(rt: HostRuntime) -> Result<(), Fail> {
     let alloc = rt.alloc();
@@ -164,37 +160,47 @@ fn ascending(alloc: Global) -> Result<Vec<(Value, Value)>, NoMemory> {
     Ok(pairs)
 }
 
+// That `a` and `b` compare so, as a value and as a truth.
 fn assert_compares(
     rt: &impl Abort,
     alloc: Global,
     operator: BinaryOp,
-    pair: &(Value, Value),
-    expected: (bool, bool, bool),
+    a: &Value,
+    b: &Value,
+    holds: bool,
 ) -> Result<(), NoMemory> {
+    let left = constant(a.copy()?);
+    let e = binary(alloc, 3, operator, left, constant(b.copy()?))?;
     let scope = test_scope(alloc)?;
-    let (a, b) = pair;
-    for (a, b, holds) in [(a, b, expected.0), (a, a, expected.1), (b, a, expected.2)] {
-        let e = binary(alloc, 3, operator, constant(a.copy()?), constant(b.copy()?))?;
-        assert_eq!(rt;
-            eval(alloc, &e, &scope),
-            Ok(Value::Bool(holds)),
-            "{operator:?}"
-        );
-        assert_eq!(rt; truth(alloc, &e, &scope), Ok(holds), "{operator:?}");
-    }
+    assert_eq!(rt;
+        eval(alloc, &e, &scope),
+        Ok(Value::Bool(holds)),
+        "{operator:?}"
+    );
+    assert_eq!(rt; truth(alloc, &e, &scope), Ok(holds), "{operator:?}");
     Ok(())
 }
+
+// Each operator, and whether it holds of a lesser and a greater value, of equal ones, and of a
+// greater and a lesser one.
+const COMPARISONS: [(BinaryOp, bool, bool, bool); 6] = [
+    (BinaryOp::Eq, false, true, false),
+    (BinaryOp::Ne, true, false, true),
+    (BinaryOp::Lt, true, false, false),
+    (BinaryOp::Le, true, true, false),
+    (BinaryOp::Gt, false, false, true),
+    (BinaryOp::Ge, false, true, true),
+];
 
 #[test]
 fn compares_values(rt: HostRuntime) -> Result<(), Fail> {
     let alloc = rt.alloc();
-    for pair in ascending(alloc)?.iter() {
-        assert_compares(&rt, alloc, BinaryOp::Eq, pair, (false, true, false))?;
-        assert_compares(&rt, alloc, BinaryOp::Ne, pair, (true, false, true))?;
-        assert_compares(&rt, alloc, BinaryOp::Lt, pair, (true, false, false))?;
-        assert_compares(&rt, alloc, BinaryOp::Le, pair, (true, true, false))?;
-        assert_compares(&rt, alloc, BinaryOp::Gt, pair, (false, false, true))?;
-        assert_compares(&rt, alloc, BinaryOp::Ge, pair, (false, true, true))?;
+    for (a, b) in ascending(alloc)?.iter() {
+        for (operator, less, same, greater) in COMPARISONS {
+            assert_compares(&rt, alloc, operator, a, b, less)?;
+            assert_compares(&rt, alloc, operator, a, a, same)?;
+            assert_compares(&rt, alloc, operator, b, a, greater)?;
+        }
     }
     Ok(())
 }
@@ -219,7 +225,7 @@ fn push_numbers(alloc: Global, cases: &mut Vec<Case>) -> Result<(), NoMemory> {
     Ok(())
 }
 
-fn push_lists(alloc: Global, cases: &mut Vec<Case>) -> Result<(), NoMemory> {
+fn push_added(alloc: Global, cases: &mut Vec<Case>) -> Result<(), NoMemory> {
     let none = Expr::Call(3, Function::Ids, Items::new(alloc));
     cases.push((none, Ok(ids(alloc, &[])?)))?;
     for (entries, entry, expected) in [
@@ -228,64 +234,74 @@ fn push_lists(alloc: Global, cases: &mut Vec<Case>) -> Result<(), NoMemory> {
         ([1, 3].as_slice(), 1, [1, 1, 3].as_slice()),
         ([1, 3].as_slice(), i64::MAX, [1, 3, i64::MAX].as_slice()),
     ] {
-        let add = call_two(
-            alloc,
-            Function::Add,
-            constant(ids(alloc, entries)?),
-            int(entry),
-        )?;
+        let list = constant(ids(alloc, entries)?);
+        let add = call_two(alloc, Function::Add, list, int(entry))?;
         cases.push((add, Ok(ids(alloc, expected)?)))?;
     }
+    Ok(())
+}
+
+fn push_found(alloc: Global, cases: &mut Vec<Case>) -> Result<(), NoMemory> {
     for (entry, expected) in [(1, true), (3, true), (5, true), (4, false), (6, false)] {
-        let has = call_two(
-            alloc,
-            Function::Has,
-            constant(ids(alloc, &[1, 3, 5])?),
-            int(entry),
-        )?;
+        let list = constant(ids(alloc, &[1, 3, 5])?);
+        let has = call_two(alloc, Function::Has, list, int(entry))?;
         cases.push((has, Ok(Value::Bool(expected))))?;
     }
+    Ok(())
+}
+
+fn push_extremes(alloc: Global, cases: &mut Vec<Case>) -> Result<(), NoMemory> {
     for (function, expected) in [(Function::Min, "ab"), (Function::Max, "b")] {
-        let a = constant(text(alloc, "b")?);
-        let one = call_two(alloc, function, a, constant(text(alloc, "ab")?))?;
+        let b = constant(text(alloc, "b")?);
+        let one = call_two(alloc, function, b, constant(text(alloc, "ab")?))?;
         cases.push((one, Ok(text(alloc, expected)?)))?;
     }
     Ok(())
 }
 
-fn push_lazy(alloc: Global, cases: &mut Vec<Case>) -> Result<(), NoMemory> {
-    let stops = fault(Cause::DivideByZero, 7);
-    let yes = Value::Bool(true);
-    let no = Value::Bool(false);
-    let and = binary(alloc, 3, BinaryOp::And, constant(no), faulty_test(alloc)?)?;
-    cases.push((and, Ok(Value::Bool(false))))?;
-    let and = binary(alloc, 3, BinaryOp::And, constant(yes), faulty_test(alloc)?)?;
-    cases.push((and, stops))?;
-    let or = binary(
-        alloc,
-        3,
-        BinaryOp::Or,
-        constant(Value::Bool(true)),
-        faulty_test(alloc)?,
-    )?;
-    cases.push((or, Ok(Value::Bool(true))))?;
-    let or = binary(
-        alloc,
-        3,
-        BinaryOp::Or,
-        faulty_test(alloc)?,
-        constant(Value::Bool(true)),
-    )?;
+// This truth value, or the fault of what has none.
+fn truth_or_fault(expected: Option<bool>) -> Result<Value, EvalStop> {
+    match expected {
+        Some(holds) => Ok(Value::Bool(holds)),
+        None => fault(Cause::DivideByZero, 7),
+    }
+}
+
+// `and` and `or` of a truth value and of what has no truth.
+fn push_right(alloc: Global, cases: &mut Vec<Case>) -> Result<(), NoMemory> {
+    for (operator, left, expected) in [
+        (BinaryOp::And, false, Some(false)),
+        (BinaryOp::And, true, None),
+        (BinaryOp::Or, true, Some(true)),
+    ] {
+        let right = faulty_test(alloc)?;
+        let e = binary(alloc, 3, operator, constant(Value::Bool(left)), right)?;
+        cases.push((e, truth_or_fault(expected)))?;
+    }
+    Ok(())
+}
+
+// What has a fault, and then an operand that has a value or another fault.
+fn push_left(alloc: Global, cases: &mut Vec<Case>) -> Result<(), NoMemory> {
+    let test = faulty_test(alloc)?;
+    let or = binary(alloc, 3, BinaryOp::Or, test, constant(Value::Bool(true)))?;
     cases.push((or, fault(Cause::DivideByZero, 7)))?;
-    let first = call_if(alloc, constant(Value::Bool(true)), int(1), faulty(alloc)?)?;
-    cases.push((first, Ok(Value::Int(1))))?;
-    let second = call_if(alloc, constant(Value::Bool(false)), faulty(alloc)?, int(2))?;
-    cases.push((second, Ok(Value::Int(2))))?;
-    let neither = call_if(alloc, faulty_test(alloc)?, int(1), int(2))?;
-    cases.push((neither, fault(Cause::DivideByZero, 7)))?;
     let overflow = binary(alloc, 8, BinaryOp::Sub, int(i64::MIN), int(1))?;
     let left = binary(alloc, 3, BinaryOp::Add, faulty(alloc)?, overflow)?;
     cases.push((left, fault(Cause::DivideByZero, 7)))?;
+    Ok(())
+}
+
+// A branch that is not taken has a fault, or the condition has one.
+fn push_branches(alloc: Global, cases: &mut Vec<Case>) -> Result<(), NoMemory> {
+    let other = faulty(alloc)?;
+    let first = call_if(alloc, constant(Value::Bool(true)), int(1), other)?;
+    cases.push((first, Ok(Value::Int(1))))?;
+    let other = faulty(alloc)?;
+    let second = call_if(alloc, constant(Value::Bool(false)), other, int(2))?;
+    cases.push((second, Ok(Value::Int(2))))?;
+    let neither = call_if(alloc, faulty_test(alloc)?, int(1), int(2))?;
+    cases.push((neither, fault(Cause::DivideByZero, 7)))?;
     Ok(())
 }
 
@@ -300,18 +316,43 @@ fn push_reads(alloc: Global, cases: &mut Vec<Case>) -> Result<(), NoMemory> {
     Ok(())
 }
 
+fn assert_cases(rt: &impl Abort, alloc: Global, cases: &[Case]) -> Result<(), NoMemory> {
+    let scope = test_scope(alloc)?;
+    for (i, case) in cases.iter().enumerate() {
+        assert_eq!(rt; eval(alloc, &case.0, &scope), case.1, "case {i}");
+    }
+    Ok(())
+}
+
 #[test]
 fn computes_values(rt: HostRuntime) -> Result<(), Fail> {
     let alloc = rt.alloc();
-    let scope = test_scope(alloc)?;
     let mut cases = Vec::new(alloc);
     push_numbers(alloc, &mut cases)?;
-    push_lists(alloc, &mut cases)?;
-    push_lazy(alloc, &mut cases)?;
     push_reads(alloc, &mut cases)?;
-    for (i, case) in cases.iter().enumerate() {
-        assert_case(&rt, alloc, i, case, &scope);
-    }
+    assert_cases(&rt, alloc, cases.as_slice())?;
+    Ok(())
+}
+
+#[test]
+fn computes_lists_and_extremes(rt: HostRuntime) -> Result<(), Fail> {
+    let alloc = rt.alloc();
+    let mut cases = Vec::new(alloc);
+    push_added(alloc, &mut cases)?;
+    push_found(alloc, &mut cases)?;
+    push_extremes(alloc, &mut cases)?;
+    assert_cases(&rt, alloc, cases.as_slice())?;
+    Ok(())
+}
+
+#[test]
+fn evaluates_what_is_needed_from_the_left(rt: HostRuntime) -> Result<(), Fail> {
+    let alloc = rt.alloc();
+    let mut cases = Vec::new(alloc);
+    push_right(alloc, &mut cases)?;
+    push_left(alloc, &mut cases)?;
+    push_branches(alloc, &mut cases)?;
+    assert_cases(&rt, alloc, cases.as_slice())?;
     Ok(())
 }
 

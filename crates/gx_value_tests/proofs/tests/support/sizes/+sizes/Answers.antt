@@ -1,8 +1,7 @@
 use Rattle.std.proofs.Common.{◌∙◌, ap, arith}
 use Rattle.gx_syntax_tree.specs.Bounds.{node_count, texts_in_expr}
-use Rattle.gx_types_exprs.proofs.NodeSizes.{counted-moved, short-joined, texts-binary}
-use Rattle.gx_types_exprs.proofs.Trees.{count-call}
-use Rattle.gx_types_exprs.proofs.tests.sizes.+sizes.Goals as goal
+use Rattle.gx_value_tests.proofs.NodeSizes.{count-call, counted-moved, short-joined, texts-binary}
+use Rattle.gx_value_tests.proofs.tests.support.sizes.+sizes.Goals as goal
 
 pub remaining_nodes-returns-in-Call-clause-counted :
     goal.remaining_nodes-returns-in-Call-clause-counted

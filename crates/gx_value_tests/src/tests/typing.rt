@@ -1,21 +1,15 @@
 //! Expressions that are accepted, and those that are refused with the node at which they are. They
 //! are made from texts in which each operator comes after its operands: `v.a v.b +` is `v.a + v.b`.
 
-mod shape;
-mod sizes;
-mod written;
-
 ghost use Rattle.std.specs.Prelude.{◌≡◌, [], ◌∷◌, ◌++◌, OnOk};
 
-use crate::{ExprScope, ExprStop, TypeKind, TypedExpr, type_expr, type_predicate};
+use super::support::{nested, put_nodes, remaining_nodes, written};
 use gx_rows::{NoMemory, RowType, Text, ValueKind};
 use gx_syntax_tree::Expr;
-use shape::put_nodes;
-use sizes::remaining_nodes;
+use gx_types_exprs::{ExprScope, ExprStop, TypeKind, TypedExpr, type_expr, type_predicate};
 use std::alloc::Global;
 use std::process::Abort;
 use std::test::Fail;
-use written::{nested, written};
 
 // What is returned: the kind of the values and the number after those of the nodes, or why it is
 // refused.

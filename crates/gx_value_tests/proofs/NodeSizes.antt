@@ -5,7 +5,7 @@ use Rattle.std.proofs.lemmas.Grind.{flat_map-append}
 use Rattle.std.proofs.lemmas.List.{append-nil, map-append, take_all, take_more}
 use Rattle.std.proofs.lemmas.List.Elements.{All-append}
 use Rattle.std.proofs.lemmas.List.Sums.{sum_by-append, sum_by-cons}
-use Rattle.gx_syntax_tree.specs.Bounds.{IsBoundedText, node_count, texts_in_expr, texts_in_expr-roll}
+use Rattle.gx_syntax_tree.specs.Bounds.{IsBoundedText, node_count, node_count-roll, texts_in_expr, texts_in_expr-roll}
 use Rattle.gx_syntax_tree.specs.declared.expr.BinaryOp.{BinaryOp}
 use Rattle.gx_syntax_tree.specs.declared.expr.Expr.{Expr}
 use Rattle.gx_syntax_tree.specs.declared.expr.Expr.TheOpen as layer
@@ -37,6 +37,9 @@ pub left-all : (xs : List Expr) (most i rest : ℕ) → length xs ≤ i → IsLe
 left-all xs most i rest past h =
     let all : take i xs ≡ xs = take_all i xs past in
     (subst (λ ys. rest + sum (map node_count ys) ≡ most) all h.counted, subst (λ ys. All IsBoundedText (texts_of ys)) all h.short)
+
+pub count-call : (name : List ℕ) (xs : List Expr) → node_count (exprs.Call name xs) ≡ suc (sum (map node_count xs))
+count-call name xs = ap node_count (sym (rolls-Call name xs)) ∙ node_count-roll (layer.Call name xs)
 
 pub texts-call : (name : List ℕ) (xs : List Expr) → texts_in_expr (exprs.Call name xs) ≡ texts_of xs
 texts-call name xs = ap texts_in_expr (sym (rolls-Call name xs)) ∙ texts_in_expr-roll (layer.Call name xs)

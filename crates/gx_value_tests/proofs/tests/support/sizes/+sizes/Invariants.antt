@@ -1,5 +1,5 @@
-use Rattle.gx_types_exprs.proofs.NodeSizes.{IsLeftOf}
-use Rattle.gx_types_exprs.proofs.tests.sizes.+sizes.Given as goal
+use Rattle.gx_value_tests.proofs.NodeSizes.{IsLeftOf}
+use Rattle.gx_value_tests.proofs.tests.support.sizes.+sizes.Given as goal
 
 -- what is left after the expressions passed
 abbrev pub invariant-remaining_of_all-expressions : goal.invariant-remaining_of_all-expressions
