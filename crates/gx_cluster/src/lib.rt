@@ -12,8 +12,6 @@ mod demand;
 mod filing;
 mod sweep;
 mod tasks;
-#[cfg(test)]
-mod tests;
 mod waiting;
 mod work;
 

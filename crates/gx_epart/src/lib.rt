@@ -15,8 +15,6 @@ mod extent;
 mod laws;
 mod local_edge;
 mod numbering;
-#[cfg(test)]
-mod tests;
 mod traverse;
 
 pub use epart::EPart;

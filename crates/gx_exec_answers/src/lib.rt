@@ -13,8 +13,6 @@ mod answer;
 mod counts;
 mod edges;
 mod lists;
-#[cfg(test)]
-mod tests;
 mod vertices;
 
 pub use answer::Answer;

@@ -18,8 +18,6 @@ mod projections;
 mod rows;
 mod scope;
 mod side;
-#[cfg(test)]
-mod tests;
 
 pub use evaluate::{eval, truth};
 pub use expr::Expr;

@@ -13,8 +13,6 @@ mod all_edges;
 mod lists;
 mod missing_ends;
 mod moved_edges;
-#[cfg(test)]
-mod tests;
 
 pub use missing_ends::add_missing;
 pub use moved_edges::move_edges;

@@ -11,8 +11,6 @@ mod ends;
 mod id_set;
 mod index;
 mod search;
-#[cfg(test)]
-mod tests;
 
 pub use ends::Ends;
 pub use id_set::IdSet;

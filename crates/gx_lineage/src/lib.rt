@@ -13,8 +13,6 @@ mod input;
 mod node;
 mod node_id;
 mod node_kind;
-#[cfg(test)]
-mod tests;
 
 pub use block_id::BlockId;
 pub use dag::Dag;

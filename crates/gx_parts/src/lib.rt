@@ -7,7 +7,5 @@
 #![tactic(auto)]
 
 mod parts;
-#[cfg(test)]
-mod tests;
 
 pub use parts::Parts;

@@ -8,7 +8,5 @@
 #![tactic(auto)]
 
 mod stop;
-#[cfg(test)]
-mod tests;
 
 pub use stop::stop_at;

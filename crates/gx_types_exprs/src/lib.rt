@@ -15,8 +15,6 @@ mod expression;
 mod kinds;
 mod laws;
 mod nodes;
-#[cfg(test)]
-mod tests;
 mod tree;
 mod type_kind;
 mod typed_expr;

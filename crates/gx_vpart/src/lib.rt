@@ -15,8 +15,6 @@ mod peekable_rows;
 mod rows;
 mod rows_builder;
 mod slots;
-#[cfg(test)]
-mod tests;
 mod traverse;
 mod vpart;
 mod vrows;

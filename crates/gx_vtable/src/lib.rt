@@ -12,8 +12,6 @@ mod join_scope;
 mod joins;
 mod maps;
 mod new_row;
-#[cfg(test)]
-mod tests;
 mod vertex_scope;
 
 pub use joins::{table_inner, table_left};

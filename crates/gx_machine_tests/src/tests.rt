@@ -1,0 +1,5 @@
+//! Lineages, and the logs of clusters that compute their blocks.
+
+mod clusters;
+mod lineages;
+mod support;

@@ -1,6 +1,0 @@
-use Rattle.gx_types_exprs.proofs.NodeSizes.{IsLeftOf}
-use Rattle.gx_types_exprs.proofs.tests.sizes.+sizes.Given as goal
-
--- what is left after the expressions passed
-abbrev pub invariant-remaining_of_all-expressions : goal.invariant-remaining_of_all-expressions
-invariant-remaining_of_all-expressions l = IsLeftOf l.expression-items l.fn.most l.expression-index l.rest

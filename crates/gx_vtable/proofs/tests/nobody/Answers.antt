@@ -1,6 +1,0 @@
-use Rattle.std.specs.List.{IsDistinct}
-use Rattle.gx_vtable.proofs.tests.nobody.Goals as goal
-
-pub of-requires-clause-distinct : goal.of-requires-clause-distinct
-unfolding IsDistinct
-of-requires-clause-distinct c = rw c.new.ensures.items tt
