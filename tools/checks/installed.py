@@ -1,4 +1,4 @@
-"""Tries tools/install, the man page and the completions, with the programs that this machine has."""
+"""Tries tools/install, the man page and the completions, with the programs of this machine."""
 
 import os
 import shutil
@@ -46,7 +46,10 @@ def check_man_page():
 
 
 TRY_BASH = """source "$FILE"
-try() { COMP_WORDS=("$@"); COMP_CWORD=$(($# - 1)); COMPREPLY=(); "_${1/-/_}"; echo "${COMPREPLY[*]}"; }
+try() {
+  COMP_WORDS=("$@"); COMP_CWORD=$(($# - 1)); COMPREPLY=()
+  "_${1/-/_}"; echo "${COMPREPLY[*]}"
+}
 try gx ''; try gx run p; try gx run people.gx --; try gx run --parts ''; try gx run --cut r
 try gx run --cut 1d people.gx --; try gx-check ''; try gx-check people.gx ''
 """
