@@ -1,125 +1,128 @@
-"""Checks that the three maps of the crates agree: crates.txt, README.md and docs/architecture.md.
+"""Makes and checks the maps of the crates: docs/crates.md, README.md and docs/architecture.md.
 
-Each gives the groups in the same order, and the crates of each group in the same order:
+crates.txt gives the groups and their crates: a line `# NAME: SENTENCE` begins a group, and its
+crates follow, each with what it depends on. What is proved of a crate is the paragraph of its
+README.md that begins with `**In short:**`. Of both,
 
-- in crates.txt a line `# NAME: SENTENCE` begins a group, and its crates follow;
-- in README.md, between the lines `<!-- map -->` and `<!-- end of map -->`, a row
-  `| **NAME** | SENTENCE | |` begins a group, and a row for each of its crates follows, whose last
-  cell names what it depends on, as crates.txt does;
-- in docs/architecture.md, between the same two lines, a line that starts with `**NAME**` begins a
-  group, and its crates are those named in backticks in it and in the lines up to the next group.
+- docs/crates.md has, between the lines `<!-- map -->` and `<!-- end of map -->`, a row for each
+  group and for each crate, and README.md a row for each group. tools/crate-map writes them;
+- docs/architecture.md has there, by hand, a line that starts with `**NAME**` for each group; its
+  crates are those named in backticks in it and in the lines up to the next group.
 """
 
 import re
 
 from checks.report import TOP, judge
 
-HEAD = re.compile(r"\| crate \| [^|]+ \| depends on \|$|\|[-| :]+\|$")
-GROUP_ROW = re.compile(r"\| \*\*(\w+)\*\* \|[^|]+\| *\|$")
-CRATE_ROW = re.compile(r"\| (?:`(\w+)`|\[`(\w+)`\]\(crates/(\w+)/README\.md\)) \|.+\|([^|]*)\|$")
+MARKED = re.compile(r"^<!-- map -->\n(.*?)^<!-- end of map -->$", re.S | re.M)
+REMEDY = "run tools/crate-map"
 
 
-class Map:
-    """Groups of crates in the order of a document, and what each crate depends on, if given."""
+class Group:
+    """A group of crates, each with what it depends on, in the order of crates.txt."""
 
-    def __init__(self):
-        self.groups = []
-        self.depends = {}
-
-    def begin_group(self, name):
-        self.groups.append((name, []))
-
-    def add(self, crate, depends=None):
-        if not self.groups:
-            raise ValueError(f"{crate} is in no group")
-        if crate in self.depends:
-            raise ValueError(f"{crate} is named twice")
-        self.groups[-1][1].append(crate)
-        self.depends[crate] = depends
+    def __init__(self, name, sentence):
+        self.name, self.sentence, self.crates = name, sentence, {}
 
 
-def map_of_list(text):
-    """The map of crates.txt. Words may follow a crate's name, as in `NAME staticlib: DEP`."""
-    found = Map()
+def groups_of(text):
+    """The groups of crates.txt. Words may follow a crate's name, as in `NAME staticlib: DEP`."""
+    groups, seen = [], set()
     for line in text.splitlines():
-        group = re.match(r"# ([a-z]+): \S", line)
-        if group:
-            found.begin_group(group[1])
+        if group := re.match(r"# ([a-z]+): (\S.*)", line):
+            groups.append(Group(group[1], group[2]))
             continue
         crate, colon, depends = line.partition("#")[0].partition(":")
-        if colon:
-            found.add(crate.split()[0], depends.split())
-    return found
+        if not colon:
+            continue
+        name = crate.split()[0]
+        if not groups or name in seen:
+            raise ValueError(f"{name} is in no group, or named twice")
+        seen.add(name)
+        groups[-1].crates[name] = depends.split()
+    return groups
 
 
-def marked_lines(text):
-    """The lines between the marks."""
-    parts = re.split(r"^<!-- (?:end of )?map -->$", text, flags=re.M)
-    if len(parts) != 3:
-        raise ValueError("no part between one line <!-- map --> and one line <!-- end of map -->")
-    return [line.rstrip() for line in parts[1].splitlines() if line.strip()]
+def sentence_of(crate):
+    """What is proved of a crate, as its README.md says."""
+    page = TOP / "crates" / crate / "README.md"
+    found = re.search(r"^\*\*In short:\*\* (.+?)\.?\n\n", page.read_text(), re.S | re.M)
+    if not found:
+        raise ValueError(f"{page.relative_to(TOP)} has no paragraph **In short:**")
+    return " ".join(found[1].split()).replace("|", "\\|")
 
 
-def map_of_table(text):
+def named(crates):
+    return ", ".join(f"`{crate}`" for crate in crates)
+
+
+def table_of_crates(groups):
+    """The map of docs/crates.md."""
+    lines = ["| crate | proved, by which contract | depends on |", "|---|---|---|"]
+    for group in groups:
+        lines.append(f"| **{group.name}** | {group.sentence} | |")
+        for crate, depends in group.crates.items():
+            link = f"[`{crate}`](../crates/{crate}/README.md)"
+            last = f" {named(depends)}" if depends else ""
+            lines.append(f"| {link} | {sentence_of(crate)} |{last} |")
+    return "\n".join(lines) + "\n"
+
+
+def table_of_groups(groups):
     """The map of README.md."""
-    found = Map()
-    for line in marked_lines(text):
-        group, crate = GROUP_ROW.match(line), CRATE_ROW.match(line)
-        if group:
-            found.begin_group(group[1])
-        elif crate and crate[2] == crate[3]:
-            found.add(crate[1] or crate[2], re.findall(r"`(\w+)`", crate[4]))
-        elif not HEAD.match(line):
-            raise ValueError(f"no row of a group or a crate: {line}")
-    return found
+    lines = ["| group | has | crates |", "|---|---|---|"]
+    for group in groups:
+        lines.append(f"| **{group.name}** | {group.sentence} | {named(group.crates)} |")
+    return "\n".join(lines) + "\n"
 
 
-def map_of_layers(text, crates):
-    """The map of docs/architecture.md. A name in backticks counts if it is, or seems, a crate's."""
-    found = Map()
-    for line in marked_lines(text):
-        group = re.match(r"\*\*(\w+)\*\*", line)
-        if group:
-            found.begin_group(group[1])
+MADE = {"docs/crates.md": table_of_crates, "README.md": table_of_groups}
+
+
+def with_map(text, table):
+    """A document with this table between its marks."""
+    if len(MARKED.findall(text)) != 1:
+        raise ValueError("no part between one line <!-- map --> and one line <!-- end of map -->")
+    return MARKED.sub(lambda _: f"<!-- map -->\n{table}<!-- end of map -->", text)
+
+
+def write_maps():
+    groups = groups_of((TOP / "crates.txt").read_text())
+    for name, table in MADE.items():
+        page = TOP / name
+        page.write_text(with_map(page.read_text(), table(groups)))
+
+
+def layers_of(text, crates):
+    """The groups of docs/architecture.md with their crates, by what may be the name of one."""
+    found = {}
+    for line in MARKED.search(text)[1].splitlines():
+        if group := re.match(r"\*\*(\w+)\*\*", line):
+            found[group[1]] = []
         for name in re.findall(r"`(\w+)`", line):
             if name in crates or name.startswith("gx_"):
-                found.add(name)
+                found[list(found)[-1]].append(name)
     return found
 
 
-def difference(found, wanted):
-    """The first group at which two maps differ, if any."""
-    for here, there in zip([*found.groups, ("no group", [])], [*wanted.groups, ("no group", [])]):
+def other_layers(groups):
+    """The first group of docs/architecture.md that is not as in crates.txt, if there is one."""
+    text = (TOP / "docs/architecture.md").read_text()
+    found = layers_of(text, {crate for group in groups for crate in group.crates})
+    wanted = {group.name: list(group.crates) for group in groups}
+    for here, there in zip([*found.items(), None], [*wanted.items(), None]):
         if here != there:
-            names = [f"{group} ({', '.join(crates)})" for group, crates in (here, there)]
-            return f"has {names[0]}, and crates.txt has {names[1]}"
+            return f"has {here}, and crates.txt has {there}"
     return None
-
-
-def other_depends(found, wanted):
-    """How two lists of what a crate depends on differ, if they do."""
-    if found == wanted:
-        return None
-    return f"has '{' '.join(found)}', and crates.txt has '{' '.join(wanted)}'"
 
 
 def check_map():
     try:
-        wanted = map_of_list((TOP / "crates.txt").read_text())
+        groups = groups_of((TOP / "crates.txt").read_text())
+        for name, table in MADE.items():
+            text = (TOP / name).read_text()
+            is_made = text == with_map(text, table(groups))
+            judge(f"{name}, map of the crates", None if is_made else f"is another: {REMEDY}")
+        judge("docs/architecture.md, map of the crates", other_layers(groups))
     except ValueError as error:
-        return judge("crates.txt, map of the crates", str(error))
-    maps = {
-        "README.md": map_of_table,
-        "docs/architecture.md": lambda text: map_of_layers(text, wanted.depends),
-    }
-    for name, read in maps.items():
-        try:
-            found = read((TOP / name).read_text())
-        except ValueError as error:
-            judge(f"{name}, map of the crates", str(error))
-            continue
-        judge(f"{name}, map of the crates", difference(found, wanted))
-        for crate, depends in found.depends.items():
-            if depends is not None:
-                problem = other_depends(depends, wanted.depends.get(crate, []))
-                judge(f"{name}, what {crate} depends on", problem)
+        judge("map of the crates", str(error))

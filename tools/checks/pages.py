@@ -7,12 +7,13 @@
 - from-sql.md: the first cell of each row of its table of habits is refused for the reason in the
   second cell, and the third is right. The second cell of each row of its table of queries is right
   too. All go on from the block ```gx of that page.
+- cluster.md: each picture is the one that tools/log-svg draws of the section that it stands in.
 """
 
 import re
 import subprocess
 
-from checks.report import GX, TOP, judge
+from checks.report import GX, TOP, judge, run
 from script_check.reading import statements_of, tokens_of, without_data
 from script_check.slips import SPELLINGS
 
@@ -92,7 +93,19 @@ def check_queries():
         judge(f"from-sql.md, {instead}", said_of(first + instead.strip("`")))
 
 
+def check_pictures():
+    page = TOP / "docs/cluster.md"
+    heading = ""
+    for line in page.read_text().splitlines():
+        heading = line.lstrip("# ") if line.startswith("#") else heading
+        for name in re.findall(r"^!\[.+\]\((.+\.svg)\)$", line):
+            drawn = run([TOP / "tools/log-svg", page, heading]).stdout
+            is_drawn = drawn == (page.parent / name).read_bytes()
+            judge(f"cluster.md, {name}", None if is_drawn else "is not what tools/log-svg draws")
+
+
 def check_pages():
     check_language()
     check_habits()
     check_queries()
+    check_pictures()

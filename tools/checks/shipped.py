@@ -132,7 +132,7 @@ def check_lock():
 def check_line_ends():
     """A clone whose git writes the line ends of Windows has the bytes of this repository."""
     if not shutil.which("git") or not (TOP / ".git").exists():
-        return note("a clone with other line ends is not tried, as there is no git or no repository")
+        return note("a clone with other line ends is not tried, as there is no repository")
     with tempfile.TemporaryDirectory() as folder:
         clone = Path(folder) / "clone"
         words = ["-c", "core.autocrlf=true", "-c", "core.eol=crlf", "clone", "-q", TOP, clone]
