@@ -134,7 +134,7 @@ fn measure_ends(alloc: Global, all: &EPart, rounds: u32) -> Result<Totals, PartS
     }
     let mut totals = Totals::none();
     if let Some(ends) = results.last() {
-        for (v, _) in ends.list() {
+        for v in ends.ids() {
             totals = totals.with(v.0);
         }
     }

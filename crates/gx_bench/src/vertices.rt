@@ -2,10 +2,10 @@
 
 ghost use Rattle.std.specs.Prelude.{◌≡◌, IfOk};
 ghost use Rattle.std.specs.Map.{keys_of};
-ghost use Rattle.gx_index.specs.Ids.{HasDistinctIds};
+ghost use Rattle.gx_index.specs.Ids.{HasDistinctIds, IsAscending};
 
 use crate::shape::Shape;
-use gx_index::IdSet;
+use gx_index::distinct_ids;
 use gx_rows::{NoMemory, Row, Vid};
 use gx_vpart::VPart;
 use std::alloc::Global;
@@ -27,9 +27,8 @@ pub fn vertices(
 ) -> Result<Vec<(Vid, Row)>, NoMemory>
     ensures { IfOk result (λ rows. HasDistinctIds (keys_of rows.items)) }
 {
-    let set = multiples(alloc, count, stride)?;
-    let _ = set.ids();
-    let mut rows = rows_of_ids(alloc, shape, &set)?;
+    let ids = multiples(alloc, count, stride)?;
+    let mut rows = rows_of_ids(alloc, shape, ids.as_slice())?;
     rows.sort_unstable_by_key(|r| r.0.0.wrapping_mul(SCATTER));
     Ok(rows)
 }
@@ -68,19 +67,21 @@ pub fn partition(alloc: Global, shape: Shape, count: u32, stride: i64) -> Result
     partition_of(alloc, vertices(alloc, shape, count, stride)?)
 }
 
-fn multiples(alloc: Global, count: u32, stride: i64) -> Result<IdSet, NoMemory> {
+fn multiples(alloc: Global, count: u32, stride: i64) -> Result<Vec<Vid>, NoMemory>
+    ensures { IfOk result (λ ids. IsAscending ids.items) }
+{
     let mut ids = Vec::with_capacity(alloc, count as usize)?;
     for i in 0..count {
         ids.push(Vid(i64::from(i).wrapping_mul(stride)))?;
     }
-    IdSet::of(alloc, ids.as_slice())
+    distinct_ids(alloc, ids.as_slice())
 }
 
-fn rows_of_ids(alloc: Global, shape: Shape, set: &IdSet) -> Result<Vec<(Vid, Row)>, NoMemory>
-    ensures { IfOk result (λ rows. keys_of rows.items ≡ set.now) }
+fn rows_of_ids(alloc: Global, shape: Shape, ids: &[Vid]) -> Result<Vec<(Vid, Row)>, NoMemory>
+    ensures { IfOk result (λ rows. keys_of rows.items ≡ ids.now) }
 {
     let mut rows = Vec::new(alloc);
-    let mut rest = set.ids();
+    let mut rest = ids;
     while let [id, after @ ..] = rest {
         rows.push((*id, shape.row(alloc, id.0)?))?;
         rest = after;

@@ -11,7 +11,7 @@ ghost use Rattle.gx_epart.specs.Numbers.{HasIds, HasKnownEnds, edge_of_numbers, 
 use crate::EPart;
 use crate::extent::Extent;
 use crate::local_edge::LocalEdge;
-use gx_index::{IdSet, Index};
+use gx_index::{Index, distinct_ids};
 use gx_rows::{NoMemory, Row, Vid};
 use std::alloc::Global;
 use std::rc::Rc;
@@ -23,11 +23,11 @@ pub fn index_of_ends(alloc: Global, edges: &[(Vid, Vid, &Row)]) -> Result<Index,
     ensures all_ends { IfOk result (λ ends. All (HasKnownEnds ends) (edges_lent edges.now)) }
 {
     let ids = ids_of_ends(alloc, edges)?;
-    let set = IdSet::of(alloc, ids.as_slice())?;
-    if set.ids().len() > u32::MAX as usize {
+    let ids = distinct_ids(alloc, ids.as_slice())?;
+    if ids.len() > u32::MAX as usize {
         return Err(NoMemory);
     }
-    Index::of(alloc, set.ids())
+    Index::from_vec(alloc, ids)
 }
 
 fn ids_of_ends(alloc: Global, edges: &[(Vid, Vid, &Row)]) -> Result<Vec<Vid>, NoMemory>

@@ -11,7 +11,7 @@ ghost use Rattle.gx_gops.specs.Tables.{HasSameIds, both_ends, default_rows, ends
 use crate::lists::append;
 use gx_cuts::vertex_part;
 use gx_epart::EPart;
-use gx_index::IdSet;
+use gx_index::distinct_ids;
 use gx_rows::{NoMemory, Row, Vid};
 use gx_vpart::{VPart, VRows};
 use std::alloc::Global;
@@ -56,12 +56,13 @@ fn with_missing(
         ++ default_rows default.now (ends_in_part part parts (edges_of_parts edges.now)))) }
 {
     let missing = missing_ends(alloc, rows, edges, part, parts)?;
+    let ids = missing.as_slice();
     // The call takes no time; its clause says that the rows ascend.
     let _ascending = rows.rows();
-    if missing.ids().is_empty() {
+    if ids.is_empty() {
         return shared(alloc, rows);
     }
-    let all = rows_and_defaults(alloc, rows, missing.ids(), default)?;
+    let all = rows_and_defaults(alloc, rows, ids, default)?;
     table_of_runs(alloc, all)
 }
 
@@ -72,17 +73,17 @@ fn no_rows(alloc: Global) -> Result<VPart, NoMemory>
     VPart::of(alloc, Vec::new(alloc))
 }
 
-// The ends of edges that are in the partition and have no row.
+// The ends of edges that are in the partition and have no row, ascending.
 fn missing_ends(
     alloc: Global,
     rows: &VPart,
     edges: &[Rc<EPart>],
     part: u32,
     parts: u32,
-) -> Result<IdSet, NoMemory>
+) -> Result<Vec<Vid>, NoMemory>
     requires { part < parts }
-    ensures { IfOk result (IsSetOf
-        (filter (is_missing rows.now part parts) (both_ends (edges_of_parts edges.now)))) }
+    ensures { IfOk result (λ ids. IsSetOf
+        (filter (is_missing rows.now part parts) (both_ends (edges_of_parts edges.now))) ids.items) }
 {
     let mut ids = Vec::new(alloc);
     let mut rest = edges;
@@ -90,7 +91,7 @@ fn missing_ends(
         append_missing_ends(&mut ids, rows, first, part, parts)?;
         rest = after;
     }
-    IdSet::of(alloc, ids.as_slice())
+    distinct_ids(alloc, ids.as_slice())
 }
 
 // The missing ends of one edge partition, in any order and with repetitions, after the other

@@ -1,3 +1,6 @@
 pub mod Searching
+pub mod Sets
 pub mod Slots
 pub mod Merging
+pub mod EndsBySlot
+pub mod Progress

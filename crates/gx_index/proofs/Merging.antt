@@ -116,7 +116,7 @@ or-nil : (b : Bool) → b || false ≡ b
 or-nil true = refl
 or-nil false = refl
 
-sides_if_any-is : (s : Sides) → s.src || s.dst ≡ true → Some s ≡ sides_if_any s.src s.dst
+pub sides_if_any-is : (s : Sides) → s.src || s.dst ≡ true → Some s ≡ sides_if_any s.src s.dst
 sides_if_any-is s some = by s.src s.dst some
   where
     by : (p q : Bool) → p || q ≡ true → Some (record { src = p; dst = q }) ≡ sides_if_any p q

@@ -1,34 +1,42 @@
 //! The ends of edges.
+//!
+//! They are kept as an index and, by slot, the sides, so that a partition whose edges are numbered
+//! shares its index with them, and a copy takes two counts. `of` is for callers that have only
+//! identifiers: it sorts them first.
 
-ghost use Rattle.std.specs.Prelude.{◌≡◌, ◌∷◌, ◌++◌, IfOk, IsPermutation, IsSortedByKey};
-ghost use Rattle.std.specs.Map.{keys_of};
-ghost use Rattle.gx_index.specs.Ends.{IsEndsOf, sides_of_end};
+ghost use Rattle.std.specs.Prelude.{◌≡◌, ◌<◌, ◌^◌, ◌∷◌, ◌++◌, All, IfOk, IsPermutation, IsSortedByKey, Some, length, slice_get, vec_len};
+ghost use Rattle.std.specs.List.{zip};
+ghost use Rattle.std.specs.Map.{keys_of, values_of};
+ghost use Rattle.gx_index.specs.Ends.{AreSidesBySlot, HasSides, IsEndsOf, IsSetOf, edges_of_slots, ids_of_slots, sides_of_end};
 ghost use Rattle.gx_index.specs.Ids.{IsAscending, id_cmp};
 ghost use Rattle.gx_index.specs.Merging.{either_sides, end_entries, merged};
 
-use crate::search::find_under;
+use crate::Index;
+use crate::marks::sides_of_slots;
 use gx_rows::{NoMemory, Sides, Vid};
 use std::alloc::Global;
 use std::marker::Model;
+use std::rc::Rc;
 
 /// The ends of edges in ascending order, each once, with the sides on which it is an end. Contracts
-/// see it as that list.
-#[derive(Debug, Drop)]
+/// see it as that list. Each end has a slot, which is its position.
+#[derive(Drop)]
 pub struct Ends {
-    list: Vec<(Vid, Sides)>,
+    index: Rc<Index>,
+    // By slot.
+    sides: Rc<Vec<Sides>>,
 }
 
 impl Model for Ends {
     ghost use Rattle.std.specs.Prelude.{List};
-    ghost use Rattle.std.specs.Map.{keys_of};
-    ghost use Rattle.gx_index.specs.Ends.{End};
-    ghost use Rattle.gx_index.specs.Ids.{IsAscending};
+    ghost use Rattle.std.specs.List.{zip};
+    ghost use Rattle.gx_index.specs.Ends.{End, HasSides};
 
     ghost Value = { List End };
 
-    ghost view = { λ e. e.list.items };
+    ghost view = { λ e. zip e.index.value e.sides.value.items };
 
-    ghost invariant = { λ e. IsAscending (keys_of e.list.items) };
+    ghost invariant = { λ e. HasSides e.index.value e.sides.value.items };
 }
 
 impl Ends {
@@ -36,29 +44,124 @@ impl Ends {
     ///
     /// # Errors
     ///
-    /// `NoMemory` if memory for the ends runs out.
+    /// `NoMemory` if memory for the ends runs out, or if there are 2^32 of them or more.
     pub fn of(alloc: Global, edges: &[(Vid, Vid)]) -> Result<Ends, NoMemory>
         ensures { IfOk result (IsEndsOf edges.now) }
     {
         let entries = sorted_entries(alloc, edges)?;
         let list = merge(alloc, entries.as_slice())?;
-        Ok(Ends { list })
+        Ends::of_list(alloc, list.as_slice())
+    }
+
+    /// The ends of edges whose sources and destinations are given as slots of an index, that has
+    /// these ends in ascending order and no other identifier. The index is shared. Each slot is
+    /// looked at once; nothing is sorted.
+    ///
+    /// # Errors
+    ///
+    /// `NoMemory` if memory for the sides runs out.
+    pub fn of_slots(
+        alloc: Global,
+        index: Rc<Index>,
+        srcs: &[u32],
+        dsts: &[u32],
+    ) -> Result<Ends, NoMemory>
+        requires edges { length srcs.now ≡ length dsts.now }
+        requires sources { All (λ n. n < length index.value) srcs.now }
+        requires destinations { All (λ n. n < length index.value) dsts.now }
+        requires exact { IsSetOf
+            (ids_of_slots index.value srcs.now ++ ids_of_slots index.value dsts.now) index.value }
+        ensures ends { IfOk result (IsEndsOf (edges_of_slots index.value srcs.now dsts.now)) }
+        ensures ids { IfOk result (λ ends. keys_of ends ≡ index.value) }
+    {
+        let sides = sides_of_slots(alloc, index.len(), srcs, dsts)?;
+        Ok(Ends {
+            index,
+            sides: Rc::new(alloc, sides)?,
+        })
+    }
+
+    /// The same ends. Nothing is copied.
+    ///
+    /// # Errors
+    ///
+    /// `NoMemory` if no further share can be counted.
+    pub fn share(&self) -> Result<Ends, NoMemory>
+        ensures { IfOk result (λ ends. ends ≡ self.now) }
+    {
+        let index = self.index.clone()?;
+        let sides = self.sides.clone()?;
+        Ok(Ends { index, sides })
+    }
+
+    /// The number of ends.
+    pub fn len(&self) -> u32
+        ensures count { result ≡ length self.now }
+        ensures fits_u32 { length self.now < 2 ^ 32 }
+        ensures ascending { IsAscending (keys_of self.now) }
+    {
+        self.index.len()
     }
 
     /// The sides on which `v` is an end; `None` exactly if it is none. It takes no memory.
     pub fn side(&self, v: Vid) -> Option<Sides>
         ensures { result ≡ sides_of_end v self.now }
     {
-        find_under(self.list.as_slice(), v)
+        match self.index.find(v) {
+            Some(slot) => Some(self.sides[slot as usize]),
+            None => None,
+        }
     }
 
-    /// The ends with their sides, borrowed.
-    pub fn list(&self) -> &[(Vid, Sides)]
-        ensures exact { result.now ≡ self.now }
+    /// The end of a slot, with its sides.
+    pub fn end(&self, slot: u32) -> (Vid, Sides)
+        requires { slot < length self.now }
+        ensures { slice_get self.now slot ≡ Some result }
+    {
+        (self.index.id_at(slot), self.sides[slot as usize])
+    }
+
+    /// The identifiers of the ends, borrowed.
+    pub fn ids(&self) -> &[Vid]
+        ensures exact { result.now ≡ keys_of self.now }
         ensures ascending { IsAscending (keys_of self.now) }
     {
-        self.list.as_slice()
+        self.index.ids()
     }
+
+    /// The index of the ends, borrowed.
+    pub fn index(&self) -> &Rc<Index>
+        ensures exact { result.now.value ≡ keys_of self.now }
+        ensures ascending { IsAscending (keys_of self.now) }
+    {
+        &self.index
+    }
+
+    // The ends of an ascending list.
+    fn of_list(alloc: Global, list: &[(Vid, Sides)]) -> Result<Ends, NoMemory>
+        requires { IsAscending (keys_of list.now) }
+        ensures { IfOk result (λ ends. ends ≡ list.now) }
+    {
+        if list.len() > u32::MAX as usize {
+            return Err(NoMemory);
+        }
+        let ids = ids_of(alloc, list)?;
+        let sides = Rc::new(alloc, sides_of(alloc, list)?)?;
+        let index = Rc::new(alloc, Index::from_vec(alloc, ids)?)?;
+        Ok(Ends { index, sides })
+    }
+}
+
+fn ids_of(alloc: Global, list: &[(Vid, Sides)]) -> Result<Vec<Vid>, NoMemory>
+    ensures { IfOk result (λ ids. ids.items ≡ keys_of list.now) }
+{
+    Ok(list.iter().map(|end| end.0).collect(alloc)?)
+}
+
+fn sides_of(alloc: Global, list: &[(Vid, Sides)]) -> Result<Vec<Sides>, NoMemory>
+    ensures { IfOk result (λ sides. sides.items ≡ values_of list.now) }
+{
+    Ok(list.iter().map(|end| end.1).collect(alloc)?)
 }
 
 // Each source and each destination with its one side, in ascending order of the identifiers.

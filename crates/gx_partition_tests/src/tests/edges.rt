@@ -10,10 +10,11 @@ use std::test::Fail;
 // An end is an identifier, whether it is a source and whether it is a destination.
 fn assert_ends(rt: &impl Abort, part: &EPart, expected: &[(i64, bool, bool)]) -> Result<(), Fail> {
     let ends = part.ends()?;
-    assert_eq!(rt; ends.list().len(), expected.len());
-    for (end, expected) in ends.list().iter().zip(expected) {
+    assert_eq!(rt; ends.len() as usize, expected.len());
+    for slot in 0..ends.len() {
+        let end = ends.end(slot);
         let found = (end.0.0, end.1.src, end.1.dst);
-        assert_eq!(rt; found, *expected);
+        assert_eq!(rt; Some(&found), expected.get(slot as usize));
     }
     Ok(())
 }

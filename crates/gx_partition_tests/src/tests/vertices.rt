@@ -4,18 +4,18 @@ ghost use Rattle.std.specs.Prelude.{◌≡◌, IfOk};
 ghost use Rattle.std.specs.Map.{keys_of};
 
 use super::support::{assert_rows, number_of, people, row_of};
-use gx_index::IdSet;
+use gx_index::distinct_ids;
 use gx_rows::{Cause, EvalStop, NoMemory, PartStop, Row, RowKey, Vid};
 use gx_vpart::VPart;
 use std::alloc::Global;
 use std::test::Fail;
 
-// Each identifier of the set with itself and `more` as its number.
-fn vertices(alloc: Global, set: &IdSet, more: i64) -> Result<Vec<(Vid, Row)>, NoMemory>
-    ensures { IfOk result (λ rows. keys_of rows.items ≡ set.now) }
+// Each identifier with itself and `more` as its number.
+fn vertices(alloc: Global, ids: &[Vid], more: i64) -> Result<Vec<(Vid, Row)>, NoMemory>
+    ensures { IfOk result (λ rows. keys_of rows.items ≡ ids.now) }
 {
     let mut rows = Vec::new(alloc);
-    let mut rest = set.ids();
+    let mut rest = ids;
     while let [id, after @ ..] = rest {
         rows.push((*id, row_of(id.0.wrapping_add(more))))?;
         rest = after;
@@ -24,9 +24,8 @@ fn vertices(alloc: Global, set: &IdSet, more: i64) -> Result<Vec<(Vid, Row)>, No
 }
 
 fn numbers(alloc: Global, ids: &[Vid], more: i64) -> Result<VPart, NoMemory> {
-    let set = IdSet::of(alloc, ids)?;
-    let _ = set.ids();
-    let rows = vertices(alloc, &set, more)?;
+    let ids = distinct_ids(alloc, ids)?;
+    let rows = vertices(alloc, ids.as_slice(), more)?;
     if rows.len() < 1000 {
         VPart::of(alloc, rows)
     } else {

@@ -13,16 +13,16 @@ returns-then-is_empty c =
     let row = c.args.default.now in
     let edges = edges_of_parts c.args.edges.now in
     let all = rows ++ default_rows row (ends_in_part c.args.part c.args.parts edges) in
-    let none = sym c.ids.ensures.exact ∙ empty_from_length _ (sym c.is_empty.ensures ∙ c.if-is_empty.true) in
-    let complete = table_of-complete rows c.args.part c.args.parts edges c.in_ok-missing.missing c.in_ok-missing.ensures row none c.rows-ascending.ensures.ascending in
+    let none = sym c.as_slice-ids.ensures.value ∙ empty_from_length _ (sym c.is_empty.ensures ∙ c.if-is_empty.true) in
+    let complete = table_of-complete rows c.args.part c.args.parts edges c.in_ok-missing.missing.items c.in_ok-missing.ensures row none c.rows-ascending.ensures.ascending in
     IfOk-weaker c.shared.result (λ same. same ≡ rows) (λ table. table ≡ table_of all) (λ same e. e ∙ complete) c.shared.ensures
 
 pub table_of_runs-requires : goal.table_of_runs-requires
 table_of_runs-requires c =
     let rows = c.args.rows.now in
     let row = c.args.default.now in
-    let missing = c.in_ok-missing.missing in
-    let all : c.in_ok-all.all.items ≡ rows ++ default_rows row missing = c.in_ok-all.ensures ∙ ap (λ ids. rows ++ default_rows row ids) c.ids-2.ensures.exact in
+    let missing = c.in_ok-missing.missing.items in
+    let all : c.in_ok-all.all.items ≡ rows ++ default_rows row missing = c.in_ok-all.ensures ∙ ap (λ ids. rows ++ default_rows row ids) c.as_slice-ids.ensures.value in
     subst (λ rs. HasDistinctIds (keys_of rs)) (sym all)
     (HasDistinctIds-with_missing rows c.args.part c.args.parts (edges_of_parts c.args.edges.now) missing c.in_ok-missing.ensures row c.rows-ascending.ensures.ascending)
 
@@ -31,8 +31,8 @@ returns c =
     let rows = c.args.rows.now in
     let row = c.args.default.now in
     let edges = edges_of_parts c.args.edges.now in
-    let missing = c.in_ok-missing.missing in
-    let all : c.in_ok-all.all.items ≡ rows ++ default_rows row missing = c.in_ok-all.ensures ∙ ap (λ ids. rows ++ default_rows row ids) c.ids-2.ensures.exact in
+    let missing = c.in_ok-missing.missing.items in
+    let all : c.in_ok-all.all.items ≡ rows ++ default_rows row missing = c.in_ok-all.ensures ∙ ap (λ ids. rows ++ default_rows row ids) c.as_slice-ids.ensures.value in
     if_ok_both (λ part. IsAscending (keys_of part)) (λ part. IsPermutation c.in_ok-all.all.items part) (λ table. table ≡ table_of (rows ++ default_rows row (ends_in_part c.args.part c.args.parts edges))) c.table_of_runs.result
     (λ part ascending same. table_of-with_missing rows c.args.part c.args.parts edges missing c.in_ok-missing.ensures row part ascending (subst (λ rs. IsPermutation rs part) all same))
     c.table_of_runs.ensures.ascending c.table_of_runs.ensures.same

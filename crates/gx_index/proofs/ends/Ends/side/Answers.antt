@@ -1,12 +1,22 @@
-use Rattle.gx_index.specs.Ids.{HasDistinctIds-from_ascending}
-use Rattle.gx_index.proofs.Searching.{lookup-IsSearchResult, sorted_by_key}
+use Rattle.std.proofs.Common.{sym, rules}
+use Rattle.std.proofs.lemmas.Option.{slice_get_within}
+use Rattle.gx_index.proofs.EndsBySlot.{sides-found, sides-none, slot_of-Some}
 use Rattle.gx_index.proofs.ends.Ends.side.Goals as goal
 
-pub find_under-requires : goal.find_under-requires
-find_under-requires c = rw c.as_slice.ensures.value (sorted_by_key (λ e. e.0) c.args.v c.self.inside.list.items c.self.invariant)
+pub index-requires : goal.index-requires
+index-requires c =
+    let at = sym (rw c.deref.ensures at c.in-Some.ensures) in
+    let within = slice_get_within c.self.inside.index.value c.in-Some.slot c.args.v (slot_of-Some c.args.v c.self.inside.index.value c.in-Some.slot at) in
+    let count = c.self.invariant.one_each in
+    rw c.deref-in-Some.ensures (search (rules, within, count))
 
-pub returns : goal.returns
-returns c =
+pub returns-in-Some : goal.returns-in-Some
+returns-in-Some c =
+    let at = sym (rw c.deref.ensures at c.in-Some.ensures) in
     rw (← c.self.view_is)
-    (lookup-IsSearchResult c.self.inside.list.items c.args.v c.find_under.result (HasDistinctIds-from_ascending _ c.self.invariant)
-    (rw c.as_slice.ensures.value at c.find_under.ensures))
+    (sides-found c.args.v c.in-Some.slot c.self.inside.index.value c.self.inside.sides.value.items c.index.result.now c.self.invariant at (rw c.deref-in-Some.ensures at c.index.ensures))
+
+pub returns-in-None : goal.returns-in-None
+returns-in-None c =
+    let none = sym (rw c.deref.ensures at c.in-None.ensures) in
+    rw (← c.self.view_is) (sym (sides-none c.args.v 0 c.self.inside.index.value c.self.inside.sides.value.items none))
