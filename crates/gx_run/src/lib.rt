@@ -16,8 +16,6 @@ mod file_rows;
 mod loads;
 mod script;
 mod telling;
-#[cfg(test)]
-mod tests;
 mod top;
 
 pub use gx_cluster::Cluster;

@@ -12,7 +12,5 @@
 
 mod command;
 mod options;
-#[cfg(test)]
-mod tests;
 
 pub use command::{RunArgs, run_args};

@@ -1,7 +1,7 @@
 //! Words that are a command, and words that are none.
 
-use crate::run_args;
 use gx_rows::Cut;
+use gx_run_args::run_args;
 use std::alloc::{AllocError, Global};
 
 // The words of a line, owned.

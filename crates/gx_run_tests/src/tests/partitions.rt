@@ -1,9 +1,8 @@
 //! Runs on two partitions and two workers: the log, entry by entry, and the least fault.
 
-use super::after_graph;
-use super::support::{NONE, assert_ends, assert_ends_on, files_of};
-use crate::{Block, Cluster};
+use super::support::{NONE, after_graph, assert_ends, assert_ends_on, files_of};
 use gx_cluster::LogEntry;
+use gx_run::{Block, Cluster};
 use std::test::Fail;
 
 const ON_TWO: [&str; 6] = ["run", "s.gx", "--parts", "2", "--workers", "2"];

@@ -2,16 +2,22 @@
 
 ghost use Rattle.std.specs.Prelude.{◌≡◌, ◌≤◌, ◌∷◌, [], None};
 
-use crate::{Block, Cluster, run};
 use gx_outside::{MemFiles, MemSink};
 use gx_rows::NoMemory;
+use gx_run::{Block, Cluster, run};
 use std::alloc::{AllocError, Global};
 use std::process::Abort;
 use std::test::Fail;
 
-/// A table, an edge collection and a graph of both.
-pub(super) const GRAPH: &str = "vertices people from \"people.csv\" (name: text, age: int); \
+// A table, an edge collection and a graph of both.
+const GRAPH: &str = "vertices people from \"people.csv\" (name: text, age: int); \
      edges knows from \"knows.csv\" (w: int); graph g = people, knows default (\"?\", 0); ";
+
+/// A table, printed.
+pub(super) const AGES: &str = "vertices a from \"ages.csv\" (age: int); print table a;";
+
+/// No file beside those that each run finds.
+pub(super) const NO_FILE: (&str, &str) = ("", "");
 
 // The files that each run finds, unless a row has one of the same name.
 const FILES: [(&str, &str); 7] = [
@@ -42,6 +48,11 @@ pub(super) const NONE: Faults = Faults {
     err: None,
     first: None,
 };
+
+/// `GRAPH`, and then this.
+pub(super) fn after_graph(alloc: Global, rest: &str) -> Result<String, AllocError> {
+    format!(in alloc; "{GRAPH}{rest}")
+}
 
 // The list of this item, or no item.
 fn list_of(alloc: Global, item: Option<u64>) -> Result<Vec<u64>, AllocError> {
