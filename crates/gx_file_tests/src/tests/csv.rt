@@ -86,14 +86,8 @@ fn takes_each_record(rt: HostRuntime) -> Result<(), Fail> {
     let texts = [
         ("\n\r\n", "Data(Header(0))"),
         ("\u{feff}id,a,b\n1, 25,x\n", "1 0 ' 25' 'x';"),
-        (
-            "id,a,b\r\n\r\n1,b,c\r2,,d",
-            "1 0 'b' 'c';2 0 '' 'd';",
-        ),
-        (
-            "id,a,b\n1,b,\"c,\"\"d\"\n2,,",
-            "1 0 'b' 'c,\"d';2 0 '' '';",
-        ),
+        ("id,a,b\r\n\r\n1,b,c\r2,,d", "1 0 'b' 'c';2 0 '' 'd';"),
+        ("id,a,b\n1,b,\"c,\"\"d\"\n2,,", "1 0 'b' 'c,\"d';2 0 '' '';"),
         ("id,a,b\r\n\r\n1,b\r", "Data(Shape(1))"),
     ];
     let kinds = (ValueKind::Text, ValueKind::Text);

@@ -153,13 +153,7 @@ fn joined(alloc: Global, table: VPart, sets: Vec<Expr>) -> Result<String, NoMemo
 fn left_joined(alloc: Global, table: VPart, sets: Vec<Expr>) -> Result<String, NoMemory> {
     shown(
         alloc,
-        &table_left(
-            alloc,
-            &table,
-            &hours(alloc)?,
-            &row_of(0),
-            sets.as_slice(),
-        ),
+        &table_left(alloc, &table, &hours(alloc)?, &row_of(0), sets.as_slice()),
     )
 }
 

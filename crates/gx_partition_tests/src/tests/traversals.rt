@@ -1,7 +1,7 @@
 //! The key and the fault are carried on.
 
-use gx_traverse::stop_at;
 use gx_rows::{Cause, EvalStop, PartStop, RowKey, Vid};
+use gx_traverse::stop_at;
 use std::test::Fail;
 
 #[test]

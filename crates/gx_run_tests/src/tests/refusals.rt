@@ -1,6 +1,8 @@
 //! Runs of refused scripts, files and arguments, and runs over devices that fail.
 
-use super::support::{AGES, Faults, NONE, NO_FILE, after_graph, assert_ends, assert_runs, files_of};
+use super::support::{
+    AGES, Faults, NO_FILE, NONE, after_graph, assert_ends, assert_runs, files_of,
+};
 use std::test::Fail;
 
 #[test]

@@ -1,6 +1,6 @@
 //! Whole runs that print, and those that end with a fault.
 
-use super::support::{AGES, NONE, NO_FILE, after_graph, assert_runs};
+use super::support::{AGES, NO_FILE, NONE, after_graph, assert_runs};
 use std::test::Fail;
 
 #[test]
