@@ -1,7 +1,8 @@
 """Checks that the documents are whole, and that sources are documented.
 
-Each crate has a README.md, each link of a document leads somewhere, each path that HACKING.md names
-exists, and each module and public item of the sources has a comment that says what it is.
+Each crate has a README.md, each link of a document leads to a file or a heading, each path that
+HACKING.md names exists, and each module and public item of the sources has a comment that says what
+it is.
 """
 
 import re
@@ -17,13 +18,24 @@ def check_readmes():
         judge(f"{folder.relative_to(TOP)}/README.md", None if there else "is missing")
 
 
+def anchors_of(page):
+    """The anchors of the headings of a page, as a forge makes them."""
+    headings = re.findall(r"^#+ (.+)$", page.read_text(), re.M)
+    plain = (re.sub(r"\[([^]]*)\]\([^)]*\)", r"\1", heading).lower() for heading in headings)
+    return {re.sub(r"[^\w\- ]", "", heading).strip().replace(" ", "-") for heading in plain}
+
+
 def check_links():
     for document in DOCUMENTS:
         for target in re.findall(r"\]\(([^)\s]+)\)", document.read_text()):
-            if "://" in target or target.startswith("#"):
+            if "://" in target:
                 continue
-            there = (document.parent / target.split("#")[0]).exists()
-            judge(f"{document.relative_to(TOP)}, link {target}", None if there else "leads nowhere")
+            file, _, anchor = target.partition("#")
+            page = document.parent / file if file else document
+            problem = None if page.exists() else "leads nowhere"
+            if anchor and page.suffix == ".md" and page.exists():
+                problem = None if anchor in anchors_of(page) else "names no heading"
+            judge(f"{document.relative_to(TOP)}, link {target}", problem)
 
 
 PATH = re.compile(r"`((?:gx_\w+|src|specs|proofs|must-fail|docs|tools|examples|bench)/[^`\s]*)`")

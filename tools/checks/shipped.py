@@ -120,11 +120,15 @@ def check_lock():
         streams = {"stdout": subprocess.PIPE, "stderr": subprocess.PIPE}
         calls = [subprocess.Popen(command, cwd=script.parent, env=env, **streams) for _ in range(3)]
         wanted = script.with_suffix(".out").read_bytes()
+        told = b""
         for call in calls:
             out, err = call.communicate()
+            told += err
             is_right = out == wanted and call.returncode == 0
             said = f"status {call.returncode}, {err!r}"
             judge("launcher, several calls at once", None if is_right else said)
+        names_log = told.count(b"out/build.log shows how far it is") == 1
+        judge("the launcher names its log", None if names_log else f"said {told!r}")
         builds = (clone / "builds").read_text().count("\n")
         judge("builds of several calls at once", None if builds == 1 else f"{builds} builds")
 
