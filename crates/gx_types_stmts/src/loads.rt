@@ -1,11 +1,12 @@
 //! Statements that load files: `vertices`, `edges`, `edgelist`.
 
-ghost use Rattle.std.specs.Prelude.{◌≡◌, IfOk, map};
+ghost use Rattle.std.specs.Prelude.{◌≡◌, IfOk, Ok, map};
 ghost use Rattle.gx_types_stmts.specs.StmtBounds.{IsColumnList};
 ghost use Rattle.gx_types_stmts.specs.StmtRules as rules;
+ghost use Rattle.gx_types_stmts.specs.StmtStops.{StmtReturns};
 
 use crate::typed_body::TypedBody;
-use crate::{SharedType, TypedStmt};
+use crate::{SharedType, StmtStop, TypedStmt};
 use gx_rows::{NoMemory, Text, ValueKind};
 use gx_syntax_tree::ColumnDecl;
 use sqlite_items::Items;
@@ -20,12 +21,13 @@ pub(crate) fn type_vertices(
     alloc: Global,
     file: &Text,
     columns: &Items<ColumnDecl>,
-) -> Result<TypedBody, NoMemory>
+) -> Result<TypedBody, StmtStop>
     requires { IsColumnList (map (λ c. c.name) columns.now) }
-    ensures { IfOk result (λ s. s ≡ rules.loaded_vertices file.now columns.now) }
+    ensures { StmtReturns result (Ok (rules.loaded_vertices file.now columns.now)) }
 {
     let rows = SharedType::of(alloc, declared_columns(alloc, columns)?)?;
-    let stmt = TypedStmt::Vertices { file: file.copy()? };
+    let file = file.copy()?;
+    let stmt = TypedStmt::Vertices { file };
     Ok(TypedBody::table(stmt, rows))
 }
 
@@ -38,12 +40,13 @@ pub(crate) fn type_edges(
     alloc: Global,
     file: &Text,
     columns: &Items<ColumnDecl>,
-) -> Result<TypedBody, NoMemory>
+) -> Result<TypedBody, StmtStop>
     requires { IsColumnList (map (λ c. c.name) columns.now) }
-    ensures { IfOk result (λ s. s ≡ rules.loaded_edges file.now columns.now) }
+    ensures { StmtReturns result (Ok (rules.loaded_edges file.now columns.now)) }
 {
     let edges = SharedType::of(alloc, declared_columns(alloc, columns)?)?;
-    let stmt = TypedStmt::Edges { file: file.copy()? };
+    let file = file.copy()?;
+    let stmt = TypedStmt::Edges { file };
     Ok(TypedBody::edges(stmt, edges))
 }
 
@@ -56,8 +59,8 @@ pub(crate) fn type_edge_list(
     alloc: Global,
     file: &Text,
     oriented: bool,
-) -> Result<TypedBody, NoMemory>
-    ensures { IfOk result (λ s. s ≡ rules.loaded_edge_list file.now oriented) }
+) -> Result<TypedBody, StmtStop>
+    ensures { StmtReturns result (Ok (rules.loaded_edge_list file.now oriented)) }
 {
     let edges = lone_column(alloc, "value", ValueKind::Int)?;
     let file = file.copy()?;

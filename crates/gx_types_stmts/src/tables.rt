@@ -1,7 +1,7 @@
 //! Statements that make a table of tables: `filter`, `mapvalues`, `minus`, `diff`, `innerjoin`,
 //! `leftjoin`.
 
-ghost use Rattle.std.specs.Prelude.{◌≡◌, [], ◌∷◌, IfOk};
+ghost use Rattle.std.specs.Prelude.{[], ◌∷◌, Ok};
 ghost use Rattle.gx_types_stmts.specs.Makes.{operand_types};
 ghost use Rattle.gx_types_stmts.specs.StmtBounds.{AreTypable, AreTypableSets};
 ghost use Rattle.gx_types_stmts.specs.StmtRules as rules;
@@ -14,18 +14,10 @@ use crate::sets::type_sets;
 use crate::tests_of_rows::type_condition;
 use crate::typed_body::TypedBody;
 use crate::{StmtStop, TypedStmt};
-use gx_rows::NoMemory;
 use gx_syntax_tree::{ColumnExpr, Const, Expr};
 use gx_types_exprs::ExprScope;
 use sqlite_items::Items;
 use std::alloc::Global;
-
-// A statement that makes a table with the row type of another.
-fn same_table(stmt: TypedStmt, table: &Operand<'_>) -> Result<TypedBody, NoMemory>
-    ensures { IfOk result (λ s. s ≡ rules.same_table stmt (operand_types table.now)) }
-{
-    Ok(TypedBody::table(stmt, table.vertices.copy()?))
-}
 
 /// `filter`
 ///
@@ -43,11 +35,12 @@ pub(crate) fn type_filter(
 {
     let scope = ExprScope::Vertex(table.vertices.get());
     let condition = type_condition(alloc, condition, &scope, 0)?;
+    let rows = table.vertices.copy()?;
     let stmt = TypedStmt::Filter {
         table: table.number,
         condition: condition.expr,
     };
-    Ok(same_table(stmt, table)?)
+    Ok(TypedBody::table(stmt, rows))
 }
 
 /// `mapvalues`
@@ -76,15 +69,16 @@ pub(crate) fn type_map_values(
 /// # Errors
 ///
 /// `NoMemory` if no further copy of a row type can be counted.
-pub(crate) fn type_minus(table: &Operand<'_>, other: &Operand<'_>) -> Result<TypedBody, NoMemory>
-    ensures { IfOk result
-        (λ s. s ≡ rules.subtracted_table (operand_types table.now) (operand_types other.now)) }
+pub(crate) fn type_minus(table: &Operand<'_>, other: &Operand<'_>) -> Result<TypedBody, StmtStop>
+    ensures { StmtReturns result
+        (Ok (rules.subtracted_table (operand_types table.now) (operand_types other.now))) }
 {
+    let rows = table.vertices.copy()?;
     let stmt = TypedStmt::Minus {
         table: table.number,
         other: other.number,
     };
-    same_table(stmt, table)
+    Ok(TypedBody::table(stmt, rows))
 }
 
 /// `diff`
@@ -97,11 +91,12 @@ pub(crate) fn type_diff(table: &Operand<'_>, other: &Operand<'_>) -> Result<Type
         (rules.compared_table (operand_types table.now) (operand_types other.now)) }
 {
     check_same_kinds(table.vertices.get(), other.vertices.get())?;
+    let rows = table.vertices.copy()?;
     let stmt = TypedStmt::Diff {
         table: table.number,
         other: other.number,
     };
-    Ok(same_table(stmt, table)?)
+    Ok(TypedBody::table(stmt, rows))
 }
 
 /// `innerjoin`
