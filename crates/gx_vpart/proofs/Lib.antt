@@ -1,4 +1,3 @@
-pub mod Chunks
 pub mod MaskedRows
 pub mod Progress
 pub mod Spreading

@@ -9,7 +9,7 @@ use Rattle.std.proofs.lemmas.List.{drop-drop}
 use Rattle.std.proofs.lemmas.Map.Keys.{IsDistinct-head, IsDistinct-tail}
 use Rattle.gx_rows.specs.declared.vid.Vid.{Vid}
 use Rattle.gx_index.specs.Ids.{HasDistinctIds, IsAscending, id_cmp, id_cmp-total, is_same_id}
-use Rattle.gx_vpart.proofs.Chunks.{drop-slot}
+use Rattle.gx_chunks.proofs.Chunks.{drop-slot}
 use Rattle.gx_vpart.specs.Operators.{row_at}
 use Rattle.gx_vpart.specs.Slots.{masked_rows}
 

@@ -1,12 +1,13 @@
 -- Items spread over the slots of a mask.
 use Rattle.std.proofs.Common.{◌≡◌, ℕ, zero, suc, ◌+◌, ◌-◌, ◌<◌, ◌≤◌, Bool, true, false, List, [], ◌∷◌, ◌++◌, Some, length, drop, replicate, slice_get, set, refl, sym, ap, ◌∙◌, arith, append_assoc, length-append, ◌^◌, Result, Ok, Err, IfOk}
+use Rattle.std.specs.List.{zip}
 use Rattle.std.specs.Map.{keys_of, values_of}
 use Rattle.std.proofs.lemmas.List.{append-nil, length-map, length-replicate}
 use Rattle.std.proofs.lemmas.List.Sorted.{length_permutation}
 use Rattle.gx_rows.specs.declared.vid.Vid.{Vid}
-use Rattle.gx_index.specs.Ids.{HasDistinctIds, HasDistinctIds-IsPermutation, IsAscending-from_sorted}
+use Rattle.gx_index.specs.Ids.{HasDistinctIds, HasDistinctIds-IsPermutation, IsAscending, IsAscending-from_sorted}
 use Rattle.gx_vpart.specs.Operators.{picked, with_rows}
-use Rattle.gx_vpart.proofs.Chunks.{drop-past, drop-slot}
+use Rattle.gx_chunks.proofs.Chunks.{drop-past, drop-slot}
 use Rattle.gx_vpart.specs.Slots.{AreSortedColumns, HasSlots, IsSpreadUpTo, item_for, items_after, masked_rows, spread_items, thinned_mask}
 
 -- the items of the first slots are made
@@ -120,13 +121,6 @@ pub length-spread_items : {A : Type 0} (blank : A) (mask : List Bool) (items : L
 length-spread_items blank [] items = refl
 length-spread_items blank (m ∷ mask) items = ap suc (length-spread_items blank mask (items_after m items))
 
--- ---- a full mask
-
-pub masked_rows-full : {R : Type 0} (vertices : List (Vid × R)) (n : ℕ) → n ≡ length vertices → masked_rows (replicate n true) (keys_of vertices) (values_of vertices) ≡ vertices
-masked_rows-full [] n many = rw many refl
-masked_rows-full (v ∷ vertices) zero many = absurd (omega arith)
-masked_rows-full (v ∷ vertices) (suc n) many = ap (λ vs. v ∷ vs) (masked_rows-full vertices n (omega arith))
-
 pub set-same : {A : Type 0} (xs : List A) (i : ℕ) (x : A) → slice_get xs i ≡ Some x → set xs i x ≡ xs
 set-same [] i x at = refl
 set-same (y ∷ xs) zero x at = let same : y ≡ x = cc in rw same refl
@@ -140,17 +134,34 @@ length-columns {vertices = vertices} c = rw (c.ids_are, length-map, length_permu
 pub HasDistinctIds-columns : {R : Type 0} {vertices : List (Vid × R)} {ids : List Vid} {rows : List R} → AreSortedColumns vertices ids rows → HasDistinctIds (keys_of vertices) → HasDistinctIds ids
 HasDistinctIds-columns {vertices = vertices} c distinct = rw c.ids_are (HasDistinctIds-IsPermutation (λ e. e.0) vertices c.sorted c.same distinct)
 
-pub HasSlots-columns : {R : Type 0} {vertices : List (Vid × R)} {ids : List Vid} {rows : List R} (n : ℕ) → AreSortedColumns vertices ids rows → HasDistinctIds (keys_of vertices)
-    → n ≡ length ids → length vertices < 2 ^ 32 → HasSlots (replicate n true) ids rows
-HasSlots-columns {ids = ids} n c distinct many few = record {
-  few = omega (arith, length-columns c);
-  ascending = rw c.ids_are (IsAscending-from_sorted (λ e. e.0) c.sorted (rw c.ids_are at (HasDistinctIds-columns c distinct)) c.order);
-  one_row_each = rw (c.rows_are, c.ids_are, length-map, length-map) refl;
-  one_bool_each = rw (length-replicate, many) refl;
-}
+pub IsAscending-columns : {R : Type 0} {vertices : List (Vid × R)} {ids : List Vid} {rows : List R} → AreSortedColumns vertices ids rows → HasDistinctIds (keys_of vertices) → IsAscending ids
+IsAscending-columns c distinct = rw c.ids_are (IsAscending-from_sorted (λ e. e.0) c.sorted (rw c.ids_are at (HasDistinctIds-columns c distinct)) c.order)
 
-pub masked_rows-columns : {R : Type 0} {vertices : List (Vid × R)} {ids : List Vid} {rows : List R} (n : ℕ) (c : AreSortedColumns vertices ids rows) → n ≡ length ids → masked_rows (replicate n true) ids rows ≡ c.sorted
-masked_rows-columns n c many = rw (c.ids_are, c.rows_are) (masked_rows-full c.sorted n (rw (c.ids_are, length-map) at many))
+pub one_row_each-columns : {R : Type 0} {vertices : List (Vid × R)} {ids : List Vid} {rows : List R} → AreSortedColumns vertices ids rows → length rows ≡ length ids
+one_row_each-columns c = rw (c.rows_are, c.ids_are, length-map, length-map) refl
+
+pub zip-columns : {R : Type 0} {vertices : List (Vid × R)} {ids : List Vid} {rows : List R} (c : AreSortedColumns vertices ids rows) → zip ids rows ≡ c.sorted
+zip-columns c = rw (c.ids_are, c.rows_are) (both c.sorted)
+  where
+    both : {R : Type 0} (vertices : List (Vid × R)) → zip (keys_of vertices) (values_of vertices) ≡ vertices
+    both [] = refl
+    both (v ∷ vertices) = ap (λ vs. v ∷ vs) (both vertices)
+
+pub keys_of-zip : {R : Type 0} (ids : List Vid) (rows : List R) → length rows ≡ length ids → keys_of (zip ids rows) ≡ ids
+keys_of-zip [] rows many = refl
+keys_of-zip (v ∷ ids) [] many = absurd (omega arith)
+keys_of-zip (v ∷ ids) (r ∷ rows) many = ap (λ vs. v ∷ vs) (keys_of-zip ids rows (omega arith))
+
+-- a full mask has each slot
+pub masked_rows-full : {R : Type 0} (n : ℕ) (ids : List Vid) (rows : List R) → n ≡ length ids → length rows ≡ length ids → masked_rows (replicate n true) ids rows ≡ zip ids rows
+masked_rows-full zero [] rows many each = refl
+masked_rows-full zero (v ∷ ids) rows many each = absurd (omega arith)
+masked_rows-full (suc n) [] rows many each = absurd (omega arith)
+masked_rows-full (suc n) (v ∷ ids) [] many each = absurd (omega arith)
+masked_rows-full (suc n) (v ∷ ids) (r ∷ rows) many each = ap (λ vs. (v, r) ∷ vs) (masked_rows-full n ids rows (omega arith) (omega arith))
+
+pub HasSlots-full : {R : Type 0} (n : ℕ) (ids : List Vid) (rows : List R) → n ≡ length ids → length ids < 2 ^ 32 → IsAscending ids → length rows ≡ length ids → HasSlots (replicate n true) ids rows
+HasSlots-full n ids rows many few ascending each = record { few = few; ascending = ascending; one_row_each = each; one_bool_each = rw (length-replicate, many) refl }
 
 pub HasSlots-thinned : {R : Type 0} {mask : List Bool} {ids : List Vid} {rows : List R} (bools : List Bool) → HasSlots mask ids rows → HasSlots (thinned_mask mask bools) ids rows
 HasSlots-thinned {mask = mask} bools slots = record {

@@ -1,5 +1,5 @@
-pub mod Chunks
 pub mod JoinCalls
 pub mod Joining
+pub mod LentRows
 pub mod Operators
 pub mod Slots

@@ -5,12 +5,12 @@ ghost use Rattle.std.specs.Map.{keys_of, values_of};
 ghost use Rattle.gx_index.specs.Ids.{id_cmp};
 ghost use Rattle.gx_vpart.specs.Slots.{AreSortedColumns};
 
-use crate::rows::Rows;
-use crate::rows_builder::RowsBuilder;
+use gx_chunks::{Rows, RowsBuilder};
 use gx_rows::{NoMemory, Row, Vid};
 use std::alloc::Global;
 
-/// The identifiers in ascending order, and the rows in the same order.
+/// The identifiers in ascending order, and the rows in the same order. Vertices that ascend already
+/// are not moved: the sort finds that they are in order.
 pub fn columns(alloc: Global, mut rows: Vec<(Vid, Row)>) -> Result<(Vec<Vid>, Rows), NoMemory>
     ensures { IfOk result (λ c. AreSortedColumns rows.items c.0.items c.1) }
 {

@@ -4,16 +4,14 @@
 //! index of the identifiers, rows by slot and a mask of the slots that count; the index and the rows
 //! are shared between partitions, so that what drops rows copies none. The operators are those of
 //! lists (`specs/Operators.antt`); a closure is applied as `gx_traverse` says. The crate depends on
-//! `gx_rows`, `gx_mask`, `gx_index` and `gx_traverse`; kernels over tables are built on it. It never
-//! sees edges, expressions or other partitions of the same table.
+//! `gx_rows`, `gx_mask`, `gx_index`, `gx_chunks` and `gx_traverse`; kernels over tables are built on
+//! it. It never sees edges, expressions or other partitions of the same table.
 #![tactic(auto)]
 
 mod beside;
 mod columns;
 mod joins;
 mod peekable_rows;
-mod rows;
-mod rows_builder;
 mod slots;
 mod traverse;
 mod vpart;

@@ -4,7 +4,7 @@ ghost use Rattle.std.specs.Prelude.{◌≡◌, ◌<◌, ◌++◌, ◌∷◌, IfO
 ghost use Rattle.gx_rows.specs.declared.value.Value.{Value as Cell};
 ghost use Rattle.gx_vpart.specs.Slots.{IsSpreadUpTo, item_for, items_after, spread_items, thinned_mask};
 
-use crate::rows_builder::RowsBuilder;
+use gx_chunks::RowsBuilder;
 use gx_mask::Mask;
 use gx_rows::{NoMemory, Row};
 use std::alloc::Global;

@@ -19,10 +19,9 @@ ghost use Rattle.gx_vpart.specs.Operators.{
 ghost use Rattle.gx_vpart.specs.Slots.{IsSpreadWithBools, spread_items};
 
 use crate::beside::Beside;
-use crate::rows::Rows;
-use crate::rows_builder::RowsBuilder;
 use crate::slots::{empty_row, push_masked, push_rest};
 use crate::vrows::VRows;
+use gx_chunks::{Rows, RowsBuilder};
 use gx_mask::Mask;
 use gx_rows::{EvalStop, NoMemory, PartStop, Row, RowKey, Vid};
 use gx_traverse::stop_at;

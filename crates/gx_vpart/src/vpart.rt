@@ -1,6 +1,6 @@
 //! A vertex partition.
 
-ghost use Rattle.std.specs.Prelude.{◌≡◌, ◌<◌, ◌^◌, All, IfOk, IsPermutation, length, vec_len};
+ghost use Rattle.std.specs.Prelude.{◌≡◌, ◌<◌, ◌^◌, All, IfOk, IsPermutation, length, vec_len, zip};
 ghost use Rattle.std.specs.Map.{keys_of};
 ghost use Rattle.std.specs.Option.{option_copied};
 ghost use Rattle.gx_index.specs.Ids.{HasDistinctIds, IsAscending};
@@ -10,10 +10,10 @@ ghost use Rattle.gx_vpart.specs.Operators.{picked, row_at, vertex_key, with_rows
 ghost use Rattle.gx_vpart.specs.Slots.{HasSlots, masked_rows};
 
 use crate::columns::columns;
-use crate::rows::Rows;
 use crate::slots::thin;
 use crate::traverse::{map_rows, traverse_rows};
 use crate::vrows::VRows;
+use gx_chunks::Rows;
 use gx_index::Index;
 use gx_mask::Mask;
 use gx_rows::{EvalStop, NoMemory, PartStop, Row, Vid};
@@ -56,6 +56,21 @@ impl VPart {
         ensures same { IfOk result (λ part. IsPermutation rows.items part) }
     {
         let (ids, rows) = columns(alloc, rows)?;
+        VPart::from_sorted(alloc, ids, rows)
+    }
+
+    /// The partition of these identifiers, which ascend, each with the row at its position. No row
+    /// is moved.
+    ///
+    /// # Errors
+    ///
+    /// `NoMemory` if memory for the partition runs out.
+    pub fn from_sorted(alloc: Global, ids: Vec<Vid>, rows: Rows) -> Result<VPart, NoMemory>
+        requires few { vec_len ids < 2 ^ 32 }
+        requires ascending { IsAscending ids.items }
+        requires one_row_each { length rows ≡ length ids.items }
+        ensures { IfOk result (λ part. part ≡ zip ids.items rows) }
+    {
         let mask = Rc::new(alloc, Mask::full(alloc, ids.len() as u32)?)?;
         let index = Rc::new(alloc, Index::from_vec(alloc, ids)?)?;
         let rows = Rc::new(alloc, rows)?;

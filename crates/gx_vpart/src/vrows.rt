@@ -3,10 +3,10 @@
 ghost use Rattle.std.specs.Prelude.{◌≡◌, ◌∷◌, ◌<◌, ◌≤◌, ◌^◌, MatchOption, length};
 ghost use Rattle.std.specs.Iterator.{YieldsFirstBy, item_count};
 ghost use Rattle.gx_mask.specs.Operations.{next_true};
-ghost use Rattle.gx_vpart.specs.Chunks.{IsPieceAt};
+ghost use Rattle.gx_chunks.specs.Chunks.{IsPieceAt};
 ghost use Rattle.gx_vpart.specs.Slots.{HasSlots, masked_rows};
 
-use crate::rows::Rows;
+use gx_chunks::Rows;
 use gx_mask::Mask;
 use gx_rows::{Row, Vid};
 use std::marker::Model;
@@ -26,7 +26,7 @@ pub struct VRows<'a> {
 
 impl<'a> Model for VRows<'a> {
     ghost use Rattle.std.specs.Prelude.{List, drop};
-    ghost use Rattle.gx_vpart.specs.Chunks.{IsPieceAt};
+    ghost use Rattle.gx_chunks.specs.Chunks.{IsPieceAt};
     ghost use Rattle.gx_vpart.specs.Operators.{VertexRow};
     ghost use Rattle.gx_vpart.specs.Slots.{HasSlots, masked_rows};
 

@@ -1,26 +1,31 @@
-use Rattle.std.proofs.Common.{arith}
-use Rattle.gx_vpart.proofs.MaskedRows.{IsAscending-masked_rows}
-use Rattle.gx_vpart.proofs.Spreading.{HasDistinctIds-columns, HasSlots-columns, length-columns, masked_rows-columns}
+use Rattle.std.proofs.Common.{◌≡◌, IsPermutation, zip, arith, sym, ap, ◌∙◌, subst}
+use Rattle.std.specs.Map.{keys_of}
+use Rattle.std.proofs.lemmas.Result.{IfOk-weaker}
+use Rattle.gx_index.specs.Ids.{IsAscending}
+use Rattle.gx_vpart.proofs.Spreading.{IsAscending-columns, keys_of-zip, length-columns, one_row_each-columns, zip-columns}
 use Rattle.gx_vpart.proofs.vpart.VPart.of.Goals as goal
 
-pub overflow_cast-len : goal.overflow_cast-len
-overflow_cast-len c = omega (arith, length-columns c.in_ok-ids.ensures, c.len.ensures, c.in_ok-ids.ids.ok.0, c.args.rows.ok.0, c.requires.few)
+pub from_sorted-requires-clause-few : goal.from_sorted-requires-clause-few
+from_sorted-requires-clause-few c = omega (arith, length-columns c.in_ok-ids.ensures, c.in_ok-ids.ids.ok.0, c.args.rows.ok.0, c.requires.few)
 
-pub from_vec-requires-clause-few : goal.from_vec-requires-clause-few
-from_vec-requires-clause-few c = omega (arith, length-columns c.in_ok-ids.ensures, c.in_ok-ids.ids.ok.0, c.args.rows.ok.0, c.requires.few)
+pub from_sorted-requires-clause-ascending : goal.from_sorted-requires-clause-ascending
+from_sorted-requires-clause-ascending c = IsAscending-columns c.in_ok-ids.ensures c.requires.distinct
 
-pub from_vec-requires-clause-distinct : goal.from_vec-requires-clause-distinct
-from_vec-requires-clause-distinct c = HasDistinctIds-columns c.in_ok-ids.ensures c.requires.distinct
-
-pub invariant_of-result : goal.invariant_of-result
-invariant_of-result c =
-    rw (c.in_ok-mask.ensures.ok, c.in_ok-full.ensures, c.in_ok-index.ensures.ok, c.in_ok-from_vec.ensures, c.in_ok-rows.ensures.ok)
-    (HasSlots-columns c.len.result c.in_ok-ids.ensures c.requires.distinct (omega (arith, c.len.ensures, c.in_ok-ids.ids.ok.0)) (omega (arith, c.args.rows.ok.0, c.requires.few)))
+pub from_sorted-requires-clause-one_row_each : goal.from_sorted-requires-clause-one_row_each
+from_sorted-requires-clause-one_row_each c = one_row_each-columns c.in_ok-ids.ensures
 
 pub returns-clause-ascending : goal.returns-clause-ascending
-returns-clause-ascending c = IsAscending-masked_rows _ _ _ (invariant_of-result c).ascending
+returns-clause-ascending c =
+    let ids = c.in_ok-ids.ids.items in
+    let rows = c.in_ok-ids.rows in
+    let columns = c.in_ok-ids.ensures in
+    IfOk-weaker c.from_sorted.result (λ part. part ≡ zip ids rows) (λ part. IsAscending (keys_of part))
+    (λ part is. subst IsAscending (sym (ap keys_of is ∙ keys_of-zip ids rows (one_row_each-columns columns))) (IsAscending-columns columns c.requires.distinct)) c.from_sorted.ensures
 
 pub returns-clause-same : goal.returns-clause-same
 returns-clause-same c =
-    rw (c.in_ok-mask.ensures.ok, c.in_ok-full.ensures, c.in_ok-index.ensures.ok, c.in_ok-from_vec.ensures, c.in_ok-rows.ensures.ok, masked_rows-columns c.len.result c.in_ok-ids.ensures (omega (arith, c.len.ensures, c.in_ok-ids.ids.ok.0)))
-    c.in_ok-ids.ensures.same
+    let ids = c.in_ok-ids.ids.items in
+    let rows = c.in_ok-ids.rows in
+    let columns = c.in_ok-ids.ensures in
+    IfOk-weaker c.from_sorted.result (λ part. part ≡ zip ids rows) (λ part. IsPermutation c.args.rows.items part)
+    (λ part is. subst (λ vs. IsPermutation c.args.rows.items vs) (sym (is ∙ zip-columns columns)) columns.same) c.from_sorted.ensures

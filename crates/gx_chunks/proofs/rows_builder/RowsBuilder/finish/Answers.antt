@@ -1,6 +1,6 @@
 use Rattle.std.proofs.Common.{ap, refl}
-use Rattle.gx_vpart.proofs.Chunks.{HasChunksOf-full, items_of_chunks-push, shared_chunks-push}
-use Rattle.gx_vpart.proofs.rows_builder.RowsBuilder.finish.Goals as goal
+use Rattle.gx_chunks.proofs.Chunks.{HasChunksOf-full, items_of_chunks-push, shared_chunks-push}
+use Rattle.gx_chunks.proofs.rows_builder.RowsBuilder.finish.Goals as goal
 
 pub of_chunks-requires : goal.of_chunks-requires
 of_chunks-requires c =

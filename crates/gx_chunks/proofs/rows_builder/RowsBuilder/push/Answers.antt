@@ -1,6 +1,6 @@
 use Rattle.std.proofs.Common.{ap, refl}
-use Rattle.gx_vpart.proofs.Chunks.{items_of_chunks-push, shared_chunks-push}
-use Rattle.gx_vpart.proofs.rows_builder.RowsBuilder.push.Goals as goal
+use Rattle.gx_chunks.proofs.Chunks.{items_of_chunks-push, shared_chunks-push}
+use Rattle.gx_chunks.proofs.rows_builder.RowsBuilder.push.Goals as goal
 
 pub returns : goal.returns
 returns c =

@@ -1,7 +1,7 @@
 use Rattle.std.proofs.Common.{◌<◌, refl, arith}
 use Rattle.std.proofs.lemmas.Option.{slice_get-map}
-use Rattle.gx_vpart.proofs.Chunks.{slice_get-chunks}
-use Rattle.gx_vpart.proofs.rows.Rows.get.Goals as goal
+use Rattle.gx_chunks.proofs.Chunks.{slice_get-chunks}
+use Rattle.gx_chunks.proofs.rows.Rows.get.Goals as goal
 
 pub returns-in-Some : goal.returns-in-Some
 returns-in-Some c =

@@ -21,7 +21,7 @@ pub struct RowsBuilder {
 impl Model for RowsBuilder {
     ghost use Rattle.std.specs.Prelude.{List, ◌++◌};
     ghost use Rattle.gx_rows.specs.declared.value.Value.{Value as Cell};
-    ghost use Rattle.gx_vpart.specs.Chunks.{HasFullChunks, items_of_chunks, shared_chunks};
+    ghost use Rattle.gx_chunks.specs.Chunks.{HasFullChunks, items_of_chunks, shared_chunks};
 
     ghost Value = { List (List Cell) };
 

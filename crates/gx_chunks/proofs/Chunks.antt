@@ -8,7 +8,7 @@ use Rattle.std.proofs.Math.Nat.{div-eq_of_lt, div-eq-sub-div, mod-eq_of_lt, mod-
 use Rattle.std.proofs.lemmas.Bool.{cases_lt}
 use Rattle.std.proofs.lemmas.List.{append-nil, drop-append-le, drop-drop, map-append}
 use Rattle.std.proofs.lemmas.Option.{slice_get_past}
-use Rattle.gx_vpart.specs.Chunks.{HasChunksOf, HasFullChunks, IsPieceAt, items_of_chunks, shared_chunks}
+use Rattle.gx_chunks.specs.Chunks.{HasChunksOf, HasFullChunks, IsPieceAt, items_of_chunks, shared_chunks}
 
 slice_get-left : {A : Type 0} (xs ys : List A) (i : ℕ) → i < length xs → slice_get (xs ++ ys) i ≡ slice_get xs i
 slice_get-left [] ys i within = absurd (omega arith)
@@ -124,7 +124,7 @@ slice_get-piece xs i x piece at = first xs i at.split
 pub IsPieceAt-rest : {A : Type 0} (xs : List A) (i : ℕ) (x : A) (piece : List A) → IsPieceAt i (x ∷ piece) xs → IsPieceAt (i + 1) piece xs
 IsPieceAt-rest xs i x piece at = record { rest = at.rest; split = sym (drop-drop 1 i xs) ∙ ap (drop 1) at.split }
 
-items_of_chunks-append : {A : Type 0} (cs ds : List (List A)) → items_of_chunks (cs ++ ds) ≡ items_of_chunks cs ++ items_of_chunks ds
+pub items_of_chunks-append : {A : Type 0} (cs ds : List (List A)) → items_of_chunks (cs ++ ds) ≡ items_of_chunks cs ++ items_of_chunks ds
 items_of_chunks-append [] ds = refl
 items_of_chunks-append (c ∷ cs) ds = rw append_assoc (ap (λ xs. c ++ xs) (items_of_chunks-append cs ds))
 

@@ -1,9 +1,19 @@
 //! Rows by slot, in chunks of 32 that are shared.
 
-ghost use Rattle.std.specs.Prelude.{◌≡◌, ◌+◌, ◌∷◌, ◌<◌, ◌≤◌, ◌^◌, IfOk, List, [], drop, length, slice_get, vec_len};
+ghost use Rattle.std.specs.Prelude.{
+  ◌≡◌,
+  ◌<◌,
+  IfOk,
+  drop,
+  length,
+  slice_get,
+};
 ghost use Rattle.std.specs.Option.{option_copied};
-ghost use Rattle.gx_vpart.specs.Chunks.{HasChunksOf, IsPieceAt, items_of_chunks, shared_chunks};
+ghost use Rattle.std.specs.Map.{keys_of};
+ghost use Rattle.gx_chunks.specs.Chunks.{HasChunksOf, IsPieceAt, items_of_chunks, shared_chunks};
+ghost use Rattle.gx_chunks.specs.Editing.{AreSlotsWithin, with_items};
 
+use crate::rows_editor::RowsEditor;
 use gx_rows::{NoMemory, Row};
 use std::alloc::Global;
 use std::marker::Model;
@@ -18,7 +28,7 @@ pub struct Rows {
 impl Model for Rows {
     ghost use Rattle.std.specs.Prelude.{List};
     ghost use Rattle.gx_rows.specs.declared.value.Value.{Value as Cell};
-    ghost use Rattle.gx_vpart.specs.Chunks.{HasChunksOf, items_of_chunks, shared_chunks};
+    ghost use Rattle.gx_chunks.specs.Chunks.{HasChunksOf, items_of_chunks, shared_chunks};
 
     ghost Value = { List (List Cell) };
 
@@ -44,6 +54,35 @@ impl Rows {
             Some(chunk) => item(chunk.as_slice(), slot % 32),
             None => None,
         }
+    }
+
+    /// The same rows, of which some can be replaced at ascending slots, one after another.
+    ///
+    /// # Errors
+    ///
+    /// `NoMemory` if memory for the list of the chunks runs out.
+    pub fn editor(&self, alloc: Global) -> Result<RowsEditor<'_>, NoMemory>
+        ensures { IfOk result (λ e. e ≡ record { rows = self.now; next = 0 }) }
+    {
+        RowsEditor::of_chunks(alloc, self.chunks.as_slice())
+    }
+
+    /// The rows with each of these at its slot, in place of its own. Chunks without a new row are
+    /// shared.
+    ///
+    /// # Errors
+    ///
+    /// `NoMemory` if memory for the rows of a chunk runs out, or if no further copy of a chunk can
+    /// be counted.
+    pub fn replaced(&self, alloc: Global, rows: Vec<(u32, Row)>) -> Result<Rows, NoMemory>
+        requires { AreSlotsWithin 0 (length self.now) (keys_of rows.items) }
+        ensures { IfOk result (λ new. new ≡ with_items self.now rows.items) }
+    {
+        let mut editor = self.editor(alloc)?;
+        'rows: for (slot, row) in rows {
+            editor.put(slot, row)?;
+        }
+        editor.finish()
     }
 
     /// The rows from a slot on up to the end of its chunk; none exactly if there is no such slot.

@@ -1,7 +1,7 @@
 use Rattle.std.proofs.Common.{◌<◌, ◌%◌, arith, refl}
 use Rattle.std.proofs.lemmas.Option.{slice_get-map}
-use Rattle.gx_vpart.proofs.Chunks.{IsPieceAt-chunks, IsPieceAt-past, nonempty-chunk, slice_get-chunks, slice_get-none}
-use Rattle.gx_vpart.proofs.rows.Rows.chunk_from.Goals as goal
+use Rattle.gx_chunks.proofs.Chunks.{IsPieceAt-chunks, IsPieceAt-past, nonempty-chunk, slice_get-chunks, slice_get-none}
+use Rattle.gx_chunks.proofs.rows.Rows.chunk_from.Goals as goal
 
 pub returns-in-Some-clause-piece : goal.returns-in-Some-clause-piece
 returns-in-Some-clause-piece c =
