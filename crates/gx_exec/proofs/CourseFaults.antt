@@ -8,9 +8,9 @@ use Rattle.gx_lineage.specs.declared.node_id.NodeId.{NodeId}
 use Rattle.gx_model.specs.ScriptMeaning.{fault_of_number, plain_values}
 use Rattle.gx_model.specs.StmtFaults.{fault_of_stmt}
 use Rattle.gx_plan.specs.PlanInvariant.{IsFrontOf}
-use Rattle.gx_plan.specs.Plans.{Planned, node_of, phases_of, recipe_at, with_number}
+use Rattle.gx_plan.specs.Plans.{Planned, node_of, own_recipes, phases_of, recipe_at, with_number}
 use Rattle.gx_plan.specs.Recipes.{recipe_of}
-use Rattle.gx_plan.specs.StmtNodes.{demanded_by, own_kinds, own_recipes, statement_of}
+use Rattle.gx_plan.specs.StmtNodes.{demanded_by, own_kinds, statement_of}
 use Rattle.gx_plan.specs.declared.kind.Kind.{Kind}
 use Rattle.gx_plan.specs.declared.recipe.Recipe.{Recipe}
 use Rattle.gx_plan.proofs.OneStatement.{added-front}
@@ -20,7 +20,7 @@ use Rattle.gx_types_stmts.specs.declared.typed_stmt.TypedStmt.{TypedStmt}
 use Rattle.gx_types_stmts.specs.declared.typed_stmt.TypedStmt.TheVariants as stmts
 use Rattle.gx_exec_contents.specs.PartContents.{fault_kind, first_given}
 use Rattle.gx_exec_contents.specs.PhaseFaults.{fault_in, fault_of_stop}
-use Rattle.gx_exec_contents.specs.Worlds.{IsSetting, World, loaded_in, value_in}
+use Rattle.gx_exec_contents.specs.Worlds.{IsSetting, World, loaded_in, source_of}
 use Rattle.gx_exec_work.specs.Works.{PlannedWorld}
 use Rattle.gx_exec.specs.Courses.{Course, fault_of_phase, forced, forced_all, joined, phase, phases, still, was_added}
 use Rattle.gx_exec.specs.Engines.{AreQuiet, IsSteady, MayForce}
@@ -43,11 +43,11 @@ phases-planned w s (ns ∷ nss) p = joined-planned (fault_of_phase w p s ns) (ph
 pub front-forced : (w : World) (p : Planned) (s : ℕ) → 1 ≤ s → IsFrontOf p (forced w p s).planned
 front-forced w p s from_one = by (was_added p s) refl
   where
-    by : (b : Bool) → was_added p s ≡ b → IsFrontOf p (if b then still p else phases w s (phases_of w.script (with_number w.script p s) s) (with_number w.script p s)).planned
+    by : (b : Bool) → was_added p s ≡ b → IsFrontOf p (if b then still p else phases w s (phases_of w.script (with_number (source_of w) p s) s) (with_number (source_of w) p s)).planned
     by true e = front-same p
     by false e =
-        subst (IsFrontOf p) (sym (phases-planned w s (phases_of w.script (with_number w.script p s) s) (with_number w.script p s)))
-        (added-front w.script p s from_one (fresh-result p s e))
+        subst (IsFrontOf p) (sym (phases-planned w s (phases_of w.script (with_number (source_of w) p s) s) (with_number (source_of w) p s)))
+        (added-front (source_of w) p s from_one (fresh-result p s e))
 
 pub front-forced_all : (w : World) (p : Planned) (ss : List ℕ) → AllByRecursion (λ s. 1 ≤ s) ss → IsFrontOf p (forced_all w p ss).planned
 front-forced_all w p [] low = front-same p
@@ -80,7 +80,7 @@ or-none (Some x) = refl
 
 -- the phases of own nodes
 own-faults : (w : World) (q : Planned) (s : ℕ) (before : List Recipe) (ks : List Kind) (n : ℕ) → q.recipes ≡ before ++ map (λ k. recipe_of k s) ks → n ≡ length before
-    → first_given (fault_of_phase w q s) (nodes_from n (length ks)) ≡ first_given (λ k. option_map (fault_of_stop s) (fault_kind k (value_in w) (statement_of w.script s))) ks
+    → first_given (fault_of_phase w q s) (nodes_from n (length ks)) ≡ first_given (λ k. option_map (fault_of_stop s) (fault_kind w k (recipe_of k s) (λ g. g) (statement_of w.script s))) ks
 own-faults w q s before [] n is at = refl
 own-faults w q s before (k ∷ ks) n is at =
     let here : recipe_at q.recipes n ≡ recipe_of k s = ap₂ recipe_at is at ∙ get_or-append_seam before (recipe_of k s) (map (λ j. recipe_of j s) ks) _ in
@@ -121,7 +121,7 @@ module _ (e : PlannedWorld) (setting : IsSetting e.world e.planned) (s : ℕ) (m
   p = e.planned
 
   abbrev q : Planned
-  q = with_number e.world.script e.planned s
+  q = with_number (source_of e.world) e.planned s
 
   abbrev st : TypedStmt
   st = statement_of e.world.script s
@@ -145,7 +145,7 @@ module _ (e : PlannedWorld) (setting : IsSetting e.world e.planned) (s : ℕ) (m
       kept-recipe : (n : NodeId) → n.0 < length p.lineage.nodes → recipe_at q.recipes n.0 ≡ recipe_at p.recipes n.0
       kept-recipe n below =
           ap (λ rs. recipe_at rs n.0) (recipes-after e setting s may fresh)
-          ∙ get_or_append_left p.recipes (own_recipes s st) _ n.0 (omega (arith, below, setting.plan.recipes))
+          ∙ get_or_append_left p.recipes (own_recipes p s st) _ n.0 (omega (arith, below, setting.plan.recipes))
 
   pub forced-fault : IsSteady e → (forced e.world e.planned s).fault ≡ fault_of_number (loaded_in e.world) s
   forced-fault steady = by (was_added p s) refl

@@ -8,11 +8,11 @@ use Rattle.gx_plan.specs.PlanInvariant.{IsFrontOf}
 use Rattle.gx_plan.specs.Plans.{Planned, recipe_at}
 use Rattle.gx_plan.specs.declared.kind.Kind.{Kind}
 use Rattle.gx_plan.specs.declared.kind.Kind.TheVariants as kind
-use Rattle.gx_model.specs.Graphs.{Graph}
+use Rattle.gx_plan.specs.declared.recipe.Recipe.{Recipe}
 use Rattle.gx_exec_contents.specs.BlockContents.{content_of, recipe_of_block, stop_of}
 use Rattle.gx_exec_contents.specs.PartContents.{BlockStop, held_kind, stop_in, stop_or}
 use Rattle.gx_exec_contents.specs.PhaseFaults.{AreQuietBelow, fault_in, least_over}
-use Rattle.gx_exec_contents.specs.Worlds.{IsSetting, World, value_in}
+use Rattle.gx_exec_contents.specs.Worlds.{IsSetting, World}
 use Rattle.gx_exec_contents.proofs.GrownPlans.{contents-kept}
 use Rattle.gx_exec_contents.proofs.StopsOfNodes.{quiet-nodes_go_on, stops-are_faults}
 use Rattle.gx_exec_work.specs.Works.{PlannedWorld}
@@ -20,15 +20,15 @@ use Rattle.gx_exec.specs.Phases.{AreInOrder, AreNext, AreUnstopped, MayJudge}
 
 -- ---- the stop of a block is seen in its content
 
-stop_in-kind : (k : Kind) (stop : Option BlockStop) (parts i : ℕ) (g : Graph ℕ) → stop_in (stop_or stop (held_kind k parts i g)) ≡ stop
-stop_in-kind kind.Vertices None parts i g = refl
-stop_in-kind kind.Edges None parts i g = refl
-stop_in-kind k (Some s) parts i g = refl
+stop_in-kind : (w : World) (k : Kind) (r : Recipe) (i : ℕ) (stop : Option BlockStop) → stop_in (stop_or stop (held_kind w k r i)) ≡ stop
+stop_in-kind w kind.Vertices r i None = refl
+stop_in-kind w kind.Edges r i None = refl
+stop_in-kind w k r i (Some s) = refl
 
 pub stop_in-content : (w : World) (p : Planned) (b : BlockId) → stop_in (content_of w p b) ≡ stop_of w p b
 stop_in-content w p b =
     let r = recipe_of_block p b in
-    stop_in-kind r.kind (stop_of w p b) w.parts b.part (value_in w r.statement)
+    stop_in-kind w r.kind r b.part (stop_of w p b)
 
 -- blocks that are not stopped are not stopped in a larger plan
 pub quiet-kept : (w : World) (p q : Planned) → IsSetting w p → IsFrontOf p q → AreQuietBelow w p (length p.lineage.nodes) → AreQuietBelow w q (length p.lineage.nodes)

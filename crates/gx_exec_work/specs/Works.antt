@@ -4,7 +4,7 @@ use Rattle.std.specs.List.{AllZip}
 use Rattle.gx_cluster_state.specs.Nets.{Net, net_of}
 use Rattle.gx_exec_contents.specs.BlockContents.{content_of, recipe_of_block}
 use Rattle.gx_exec_contents.specs.PartContents.{Content, Edges, Stopped, Table}
-use Rattle.gx_exec_contents.specs.Worlds.{IsSetting, World}
+use Rattle.gx_exec_contents.specs.Worlds.{IsSetting, World, source_of}
 use Rattle.gx_exec_work.specs.declared.block.Block.{Block}
 use Rattle.gx_exec_work.specs.declared.block.Block.TheVariants as block
 use Rattle.gx_lineage.specs.Lineage.{IsBlock, block_inputs}
@@ -22,8 +22,7 @@ pub record PlannedWorld : Type 0 where
 -- what a work is made of: loaded rows by part, and a plan of their script with their cut
 pub record IsWork (w : World) (plan : PlannedScript) : Type 0 where
   pub setting : IsSetting w plan.planned
-  pub script : plan.script ≡ w.script
-  pub cut : plan.cut ≡ w.cut
+  pub source : plan.source ≡ source_of w
 
 -- ---- blocks as contents
 

@@ -2,7 +2,7 @@
 
 ghost use Rattle.std.specs.Prelude.{◌≡◌, ◌≤◌, ◌-◌, IfOk, None, OnErr, OnOk, get_or, length};
 ghost use Rattle.std.specs.List.{AllByRecursion};
-ghost use Rattle.gx_exec_contents.specs.Worlds.{IsSetting, IsWorld};
+ghost use Rattle.gx_exec_contents.specs.Worlds.{IsSetting, IsWorld, source_of};
 ghost use Rattle.gx_exec_work.specs.FittingInputs.{contents_of_inputs-fit};
 ghost use Rattle.gx_exec_work.specs.Works.{FitsBlock, IsContentOf, freight_of};
 ghost use Rattle.gx_plan.specs.PlanInvariant.{IsFrontOf};
@@ -78,8 +78,7 @@ impl GraphWork {
 
     /// The plan.
     pub fn plan(&self) -> &Plan
-        ensures script { result.now.script ≡ self.now.world.script }
-        ensures cut { result.now.cut ≡ self.now.world.cut }
+        ensures source { result.now.source ≡ source_of self.now.world }
         ensures planned { result.now.planned ≡ self.now.planned }
     {
         &self.plan
@@ -106,7 +105,7 @@ impl GraphWork {
         requires named { AllByRecursion (IsAdded self.old.planned)
             (named_numbers (statement_of self.old.world.script s)) }
         ensures added { OnOk result (self.new ≡ record self.old {
-          planned = with_number self.old.world.script self.old.planned s;
+          planned = with_number (source_of self.old.world) self.old.planned s;
         }) }
         ensures front { OnOk result (IsFrontOf self.old.planned self.new.planned) }
         ensures unchanged { OnErr result (self.new ≡ self.old) }
@@ -119,7 +118,7 @@ impl GraphWork {
 
 // Tells that a script that is well typed may be run. It does nothing.
 fn may_run(plan: &Plan, loads: &LoadedParts)
-    requires script { plan.now.script ≡ loads.now.script }
+    requires source { plan.now.source ≡ source_of loads.now }
     requires some_parts { 1 ≤ loads.now.parts }
     ensures { IsWorld loads.now }
 {

@@ -11,7 +11,7 @@ ghost use Rattle.gx_plan.specs.Recipes.{recipe_of};
 ghost use Rattle.gx_plan.specs.StmtNodes.{phase_recipes, statement_of};
 ghost use Rattle.gx_plan.specs.declared.kind.Kind.TheVariants as kinds;
 
-use crate::stmt_nodes::{demanded_by, own_recipes};
+use crate::stmt_nodes::demanded_by;
 use crate::{Kind, Recipe, ResultNodes};
 use gx_cuts::Cut;
 use gx_lineage::{Dag, NodeId};
@@ -45,8 +45,7 @@ impl Model for Plan {
     ghost coded = { Prim.hlevel (codes, expr.the_row.coded) };
 
     ghost view = { λ p. record {
-      script = p.typed.value;
-      cut = p.cut;
+      source = record { script = p.typed.value; cut = p.cut };
       planned = record {
         lineage = p.dag;
         recipes = p.recipes.items;
@@ -54,7 +53,7 @@ impl Model for Plan {
       };
     } };
 
-    ghost invariant = { λ p. IsPlan p.typed.value (record {
+    ghost invariant = { λ p. IsPlan (record { script = p.typed.value; cut = p.cut }) (record {
       lineage = p.dag;
       recipes = p.recipes.items;
       results = p.results.items;
@@ -72,8 +71,7 @@ impl Plan {
         requires nonzero { 1 ≤ parts }
         requires within_limit { parts ≤ 64 }
         ensures { IfOk result (λ p. p ≡ record {
-          script = typed.value;
-          cut = cut;
+          source = record { script = typed.value; cut = cut };
           planned = empty_plan parts (length typed.value);
         }) }
     {
@@ -97,14 +95,14 @@ impl Plan {
 
     /// The script.
     pub fn typed(&self) -> &Typed
-        ensures { result.now ≡ self.now.script }
+        ensures { result.now ≡ self.now.source.script }
     {
         &self.typed
     }
 
     /// How the edges of loads are placed.
     pub fn cut(&self) -> Cut
-        ensures { result ≡ self.now.cut }
+        ensures { result ≡ self.now.source.cut }
     {
         self.cut
     }
@@ -114,11 +112,11 @@ impl Plan {
     /// takes over is made by an earlier one, all statements are run, and `partition` places edges by
     /// their ends. It does nothing.
     pub fn nodes_are_fed(&self)
-        ensures plan { IsPlan self.now.script self.now.planned }
+        ensures plan { IsPlan self.now.source self.now.planned }
         ensures sound { IsSound self.now.planned.lineage }
-        ensures sorts { HasSorts self.now.script }
-        ensures run { AreRun self.now.script }
-        ensures by_ends { MoveByEnds self.now.script }
+        ensures sorts { HasSorts self.now.source }
+        ensures run { AreRun self.now.source.script }
+        ensures by_ends { MoveByEnds self.now.source.script }
     {
         let _len = self.dag.len();
         self.typed.statements_are_sound();
@@ -127,7 +125,7 @@ impl Plan {
     /// Whether statement `s`, counted from 1, was added.
     pub fn is_added(&self, s: u32) -> bool
         requires from_one { 1 ≤ s }
-        requires within { s ≤ length self.now.script }
+        requires within { s ≤ length self.now.source.script }
         ensures added { result ≡ true → IsAdded self.now.planned s }
         ensures fresh { result ≡ false → get_or self.now.planned.results (s - 1) None ≡ None }
     {
@@ -147,7 +145,7 @@ impl Plan {
     pub fn vertices_of(&self, s: u32) -> Option<NodeId>
         requires added { IsAdded self.now.planned s }
         ensures node { result ≡ node_of self.now.planned (recipe_of kinds.Vertices s) }
-        ensures owned { HasNodeFor self.now.script self.now.planned (recipe_of kinds.Vertices s) }
+        ensures owned { HasNodeFor self.now.source.script self.now.planned (recipe_of kinds.Vertices s) }
     {
         self.nodes_are_fed();
         self.node(Recipe::of(Kind::Vertices, s))
@@ -157,7 +155,7 @@ impl Plan {
     pub fn edges_of(&self, s: u32) -> Option<NodeId>
         requires added { IsAdded self.now.planned s }
         ensures node { result ≡ node_of self.now.planned (recipe_of kinds.Edges s) }
-        ensures owned { HasNodeFor self.now.script self.now.planned (recipe_of kinds.Edges s) }
+        ensures owned { HasNodeFor self.now.source.script self.now.planned (recipe_of kinds.Edges s) }
     {
         self.nodes_are_fed();
         self.node(Recipe::of(Kind::Edges, s))
@@ -171,9 +169,9 @@ impl Plan {
     /// `NoMemory` if memory for the lists runs out.
     pub fn phases(&self, s: u32) -> Result<Vec<Vec<NodeId>>, NoMemory>
         requires from_one { 1 ≤ s }
-        requires within { s ≤ length self.now.script }
+        requires within { s ≤ length self.now.source.script }
         ensures { IfOk result (λ phases. map (λ v. v.items) phases.items
-            ≡ phases_of self.now.script self.now.planned s) }
+            ≡ phases_of self.now.source.script self.now.planned s) }
     {
         let mut phases = Vec::new(self.alloc);
         for r in &self.phase_recipes(s)? {
@@ -185,13 +183,12 @@ impl Plan {
     // What is demanded for statement `s`, phase by phase.
     fn phase_recipes(&self, s: u32) -> Result<Vec<Recipe>, NoMemory>
         requires from_one { 1 ≤ s }
-        requires within { s ≤ length self.now.script }
+        requires within { s ≤ length self.now.source.script }
         ensures { IfOk result (λ rs. rs.items
-            ≡ phase_recipes s (statement_of self.now.script s)) }
+            ≡ phase_recipes s (statement_of self.now.source.script s)) }
     {
-        let stmt = self.statement(s);
-        let mut recipes = own_recipes(self.alloc, s, stmt)?;
-        if let Some(r) = demanded_by(stmt) {
+        let mut recipes = self.own_recipes(s)?;
+        if let Some(r) = demanded_by(self.statement(s)) {
             recipes.push(r)?;
         }
         Ok(recipes)
@@ -221,8 +218,8 @@ impl Plan {
     // Statement `s`.
     pub(crate) fn statement(&self, s: u32) -> &TypedStmt
         requires from_one { 1 ≤ s }
-        requires within { s ≤ length self.now.script }
-        ensures { result.now ≡ statement_of self.now.script s }
+        requires within { s ≤ length self.now.source.script }
+        ensures { result.now ≡ statement_of self.now.source.script s }
     {
         self.typed.statement(s)
     }
