@@ -8,7 +8,7 @@ use Rattle.gx_lineage.specs.declared.node_id.NodeId.{NodeId}
 use Rattle.gx_model.specs.ScriptMeaning.{fault_of_number, plain_values}
 use Rattle.gx_model.specs.StmtFaults.{fault_of_stmt}
 use Rattle.gx_plan.specs.PlanInvariant.{IsFrontOf}
-use Rattle.gx_plan.specs.Plans.{Planned, node_of, own_recipes, phases_of, recipe_at, with_number}
+use Rattle.gx_plan.specs.Plans.{Planned, nodes_of, own_recipes, phase_at, phases_of, recipe_at, with_number}
 use Rattle.gx_plan.specs.Recipes.{recipe_of}
 use Rattle.gx_plan.specs.StmtNodes.{demanded_by, own_kinds, statement_of}
 use Rattle.gx_plan.specs.declared.kind.Kind.{Kind}
@@ -128,7 +128,7 @@ module _ (e : PlannedWorld) (setting : IsSetting e.world e.planned) (s : ℕ) (m
 
   fresh-fault : AreQuiet e → was_added p s ≡ false → (phases w s (phases_of w.script q s) q).fault ≡ fault_of_number (loaded_in w) s
   fresh-fault quiet fresh =
-      let demanded = map (λ r. option_to_list (node_of q r)) (demanded_by st) in
+      let demanded = phase_at (nodes_of q (demanded_by st)) in
       let own = nodes_from (length p.lineage.nodes) (length (own_kinds st)) in
       let is_front : IsFrontOf p q = fresh-front e setting s may fresh in
       phases-fault w s (phases_of w.script q s) q
@@ -139,7 +139,7 @@ module _ (e : PlannedWorld) (setting : IsSetting e.world e.planned) (s : ℕ) (m
       ∙ model-fault w s st ∙ sym (number-fault w s may.from_one may.within))
       (earlier-faults w q s (length p.lineage.nodes) demanded
       (λ n below. ap (fault_in w) (kept-recipe n below) ∙ quiet-fault w p setting quiet n below)
-      (demanded-earlier e setting s may fresh (demanded_by st) (demanded-added e setting s may fresh)))
+      (demanded-earlier e setting s may fresh))
       ∙ or-none (fault_of_number (loaded_in w) s)
     where
       kept-recipe : (n : NodeId) → n.0 < length p.lineage.nodes → recipe_at q.recipes n.0 ≡ recipe_at p.recipes n.0

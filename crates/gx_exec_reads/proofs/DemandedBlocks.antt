@@ -2,7 +2,6 @@
 use Rattle.std.proofs.Common.{◌≡◌, ℕ, zero, suc, ◌+◌, ◌<◌, ◌≤◌, ◌&&◌, Bool, true, false, List, [], ◌∷◌, ◌++◌, Option, None, Some, is_some, option_map, IsPermutation, flat_map, length, map, refl, sym, ap, ap₂, ◌∙◌, subst, arith}
 use Rattle.std.specs.List.{cons_option, filter_map, range_with_len}
 use Rattle.std.specs.Map.{lookup}
-use Rattle.std.specs.Option.{option_to_list}
 use Rattle.std.proofs.lemmas.List.Sorted.{IsPermutation-refl}
 use Rattle.gx_cluster.specs.States.{HoldsContents, State, held_value, shape}
 use Rattle.gx_cluster.proofs.ShapeOf.{is_held-shape}
@@ -34,7 +33,7 @@ use Rattle.gx_plan.specs.declared.kind.Kind.TheVariants as kind
 use Rattle.gx_plan.specs.declared.recipe.Recipe.{Recipe}
 use Rattle.gx_rows.specs.Order.{Edge}
 use Rattle.gx_exec_reads.specs.HeldAnswers.{held_contents}
-use Rattle.gx_exec_reads.proofs.OneDemand.{blocks-of_node, blocks_of_phases}
+use Rattle.gx_exec_reads.proofs.OneDemand.{blocks-of_node, blocks_of_phases, phase_of_node}
 use Rattle.gx_exec_reads.proofs.UnmadeRows.{unserved-edges, unserved-vertices}
 
 -- ---- held blocks are contents
@@ -91,7 +90,7 @@ module _ (w : World) (p : Planned) (setting : IsSetting w p) (quiet : AreQuietBe
       ap₂ (λ c cs. c ∷ cs) (part-held g k n stands i (omega (arith, within))) (parts-held g k n stands (i + 1) m (omega (arith, within)))
 
   node-held : (g : ℕ) (k : Kind) (n : NodeId) → Stands w.script p.recipes (recipe_of k g) n
-      → map (content_of w p) (blocks_of_phases w.parts (option_to_list (Some n) ∷ [])) ≡ map (held_kind w k (recipe_of k g)) (range_with_len 0 w.parts)
+      → map (content_of w p) (blocks_of_phases w.parts (phase_of_node (Some n))) ≡ map (held_kind w k (recipe_of k g)) (range_with_len 0 w.parts)
   node-held g k n stands = ap (map (content_of w p)) (blocks-of_node w.parts n) ∙ parts-held g k n stands 0 w.parts (omega arith)
 
   -- ---- the rows of a statement that was added are those of its blocks
@@ -101,7 +100,7 @@ module _ (w : World) (p : Planned) (setting : IsSetting w p) (quiet : AreQuietBe
     high = subst (λ m. g ≤ m) setting.plan.results added.within
 
     vertices-found : (o : Option NodeId) → IsNodeFor w.script p.recipes (recipe_of kind.Vertices g) o
-        → IsPermutation (value_in w g).vertices (flat_map vertices_held (map (content_of w p) (blocks_of_phases w.parts (option_to_list o ∷ []))))
+        → IsPermutation (value_in w g).vertices (flat_map vertices_held (map (content_of w p) (blocks_of_phases w.parts (phase_of_node o))))
     vertices-found (Some n) stands =
         subst (IsPermutation (value_in w g).vertices)
         (sym (ap (flat_map vertices_held) (node-held g kind.Vertices n stands) ∙ vertices-of_parts w g (range_with_len 0 w.parts)))
@@ -109,7 +108,7 @@ module _ (w : World) (p : Planned) (setting : IsSetting w p) (quiet : AreQuietBe
     vertices-found None none = subst (λ vs. IsPermutation vs []) (sym (unserved-vertices w setting.world g added.from_one high none)) (IsPermutation-refl [])
 
     edges-found : (o : Option NodeId) → IsNodeFor w.script p.recipes (recipe_of kind.Edges g) o
-        → IsPermutation (plain_edges (value_in w g).edges) (flat_map edges_held (map (content_of w p) (blocks_of_phases w.parts (option_to_list o ∷ []))))
+        → IsPermutation (plain_edges (value_in w g).edges) (flat_map edges_held (map (content_of w p) (blocks_of_phases w.parts (phase_of_node o))))
     edges-found (Some n) stands =
         let js : List ℕ = range_with_len 0 w.parts in
         let edges : List (ℕ × Edge) = (value_in w g).edges in
@@ -119,8 +118,8 @@ module _ (w : World) (p : Planned) (setting : IsSetting w p) (quiet : AreQuietBe
         (edges-are_their_parts w.parts edges (value-placed w setting.world.some_parts g).placed))
     edges-found None none = subst (λ (es : List (ℕ × Edge)). IsPermutation (plain_edges es) []) (sym (unserved-edges w setting.world g added.from_one high none)) (IsPermutation-refl [])
 
-    pub vertices-demanded : IsPermutation (value_in w g).vertices (flat_map vertices_held (map (content_of w p) (blocks_of_phases w.parts (option_to_list (node_of p (recipe_of kind.Vertices g)) ∷ []))))
+    pub vertices-demanded : IsPermutation (value_in w g).vertices (flat_map vertices_held (map (content_of w p) (blocks_of_phases w.parts (phase_of_node (node_of p (recipe_of kind.Vertices g))))))
     vertices-demanded = vertices-found (node_of p (recipe_of kind.Vertices g)) (setting.plan.nodes (recipe_of kind.Vertices g) refl added)
 
-    pub edges-demanded : IsPermutation (plain_edges (value_in w g).edges) (flat_map edges_held (map (content_of w p) (blocks_of_phases w.parts (option_to_list (node_of p (recipe_of kind.Edges g)) ∷ []))))
+    pub edges-demanded : IsPermutation (plain_edges (value_in w g).edges) (flat_map edges_held (map (content_of w p) (blocks_of_phases w.parts (phase_of_node (node_of p (recipe_of kind.Edges g))))))
     edges-demanded = edges-found (node_of p (recipe_of kind.Edges g)) (setting.plan.nodes (recipe_of kind.Edges g) refl added)

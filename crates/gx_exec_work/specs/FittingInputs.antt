@@ -30,4 +30,4 @@ contents-fit e (b ∷ bs) (t ∷ ts) h =
 
 pub contents_of_inputs-fit : (e : PlannedWorld) (b : BlockId) (ts : List Block) → IsBlock e.planned.lineage b
     → AllZip (IsContentOf e) (block_inputs e.planned.lineage b) ts → FitsBlock e b ts
-contents_of_inputs-fit e b ts block h = record { block = block; inputs = contents-fit e (block_inputs e.planned.lineage b) ts h }
+contents_of_inputs-fit e b ts block h = record { block = block; inputs = λ setting. contents-fit e (block_inputs e.planned.lineage b) ts h }

@@ -48,10 +48,15 @@ IsOfKind kind.Edges (Edges edges) = ⊤
 IsOfKind k (Stopped stop) = ⊤
 IsOfKind _ _ = ⊥
 
--- the block is in the plan, and each value is of the kind of the node of its input, or stopped
+-- each value is of the kind of the node of its input, or stopped
+abbrev pub AreOfKinds : PlannedWorld → BlockId → List Block → Type 0
+AreOfKinds e b values =
+    AllZip (λ c t. IsOfKind (recipe_of_block e.planned c).kind (shown t)) (block_inputs e.planned.lineage b) values
+
+-- the block is in the plan, and if that is one of the world, the values are of the kinds of the inputs
 pub record FitsBlock (e : PlannedWorld) (b : BlockId) (values : List Block) : Type 0 where
   pub block : IsBlock e.planned.lineage b
-  pub inputs : AllZip (λ c t. IsOfKind (recipe_of_block e.planned c).kind (shown t)) (block_inputs e.planned.lineage b) values
+  pub inputs : IsSetting e.world e.planned → AreOfKinds e b values
 
 -- ---- what a block sends
 

@@ -140,7 +140,16 @@ impl Work<Block> for GraphWork {
         self.plan.dag()
     }
 
-    fn run(&self, b: BlockId, inputs: &[Rc<Block>]) -> Result<Block, NoMemory> {
+    fn run(&self, b: BlockId, inputs: &[Rc<Block>]) -> Result<Block, NoMemory>
+        requires { FitsBlock self.now b (pointed_values inputs.now) }
+        ensures contents { IsBlock self.now.planned.lineage b
+            → AreContents (IsContentOf self.now) (block_inputs self.now.planned.lineage b)
+            (pointed_values inputs.now)
+            → IfOk result (IsContentOf self.now b) }
+        ensures made { IfOk result (λ t. shown t
+            ≡ made_by self.now.world (recipe_of_block self.now.planned b) b.part
+            (shown_blocks (pointed_values inputs.now))) }
+    {
         self.is_set();
         self.make(b, inputs)
     }

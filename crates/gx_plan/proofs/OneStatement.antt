@@ -91,8 +91,7 @@ each-may : (source : ScriptWithCut) (p : Planned) (s : ℕ) (ks : List Kind) →
     → MayPushAll source p (map (λ k. recipe_of k s) ks)
 each-may source p s [] may among = tt
 each-may source p s (k ∷ ks) may among =
-    let one : MayPush source p (recipe_of k s) = one-may source p s k may (among k (rw (is_kind-same k) refl)) in
-    (
+    let one : MayPush source p (recipe_of k s) = one-may source p s k may (among k (rw (is_kind-same k) refl)) in (
       one,
       each-may source (with_recipe source p (recipe_of k s)) s ks (may-kept source p s (recipe_of k s) may one)
           (λ j h. among j (or-right (is_kind j k) (list_any (is_kind j) ks) h)),

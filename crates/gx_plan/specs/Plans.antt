@@ -1,6 +1,6 @@
 -- Plans: the lineage of a script with what each node is, and the plan with one more statement.
-use Rattle.std.specs.Prelude.{◌≡◌, ℕ, ◌+◌, ◌-◌, ◌≤◌, true, if◌then◌else◌, Option, None, Some, List, [], ◌∷◌, ◌++◌, get_or, is_some, length, map, option_map, replicate, set, take, unwrap_or}
-use Rattle.std.specs.List.{flat_map}
+use Rattle.std.specs.Prelude.{◌≡◌, ℕ, ◌+◌, ◌-◌, ◌≤◌, ◌==◌, true, if◌then◌else◌, Option, None, Some, List, [], ◌∷◌, ◌++◌, get_or, is_some, length, map, option_map, replicate, set, take, unwrap_or}
+use Rattle.std.specs.List.{filter_map, flat_map}
 use Rattle.std.specs.Option.{option_or, option_to_list}
 use Rattle.gx_lineage.specs.Lineage.{Lineage, first_nodes, with_node}
 use Rattle.gx_lineage.specs.declared.input.Input.{Input}
@@ -9,7 +9,7 @@ use Rattle.gx_lineage.specs.declared.node_kind.NodeKind.{NodeKind}
 use Rattle.gx_types_stmts.specs.declared.checked_stmt.CheckedStmt.{CheckedStmt}
 use Rattle.gx_types_stmts.specs.declared.typed_stmt.TypedStmt.{TypedStmt}
 use Rattle.gx_plan.specs.Recipes.{GraphName, is_kind, node_kind_of, recipe_of}
-use Rattle.gx_plan.specs.StmtNodes.{ScriptWithCut, asks, feeds, inherits, own_kinds, phase_recipes, statement_of}
+use Rattle.gx_plan.specs.StmtNodes.{ScriptWithCut, asks, demanded_by, feeds, inherits, own_kinds, statement_of}
 use Rattle.gx_plan.specs.declared.feed.Feed.{Feed}
 use Rattle.gx_plan.specs.declared.kind.Kind.{Kind}
 use Rattle.gx_plan.specs.declared.kind.Kind.TheVariants as kind
@@ -141,6 +141,23 @@ abbrev pub with_number : ScriptWithCut → Planned → ℕ → Planned
 with_number source p s =
     with_statement source (viewed source p (asks (statement_of source.script s))) s (statement_of source.script s)
 
--- the target nodes of each phase of statement s; of an action, those of its one demand
+-- ---- phases
+
+-- the nodes of these recipes
+abbrev pub nodes_of : Planned → List Recipe → List NodeId
+nodes_of p rs = filter_map (node_of p) rs
+
+-- the phase of these nodes; none if there is no node
+abbrev pub phase_at : List NodeId → List (List NodeId)
+phase_at ns = if length ns == 0 then [] else ns ∷ []
+
+-- the phases of the nodes of these kinds of statement s, each of its own
+abbrev pub own_phases : Planned → ℕ → List Kind → List (List NodeId)
+own_phases p s ks = flat_map (λ k. phase_at (nodes_of p (recipe_of k s ∷ []))) ks
+
+-- the target nodes of each phase of statement s, which is `st`: of each node that it adds, and of what it demands
+abbrev pub phases_of_stmt : Planned → ℕ → TypedStmt → List (List NodeId)
+phases_of_stmt p s st = own_phases p s (own_kinds st) ++ phase_at (nodes_of p (demanded_by st))
+
 abbrev pub phases_of : List CheckedStmt → Planned → ℕ → List (List NodeId)
-phases_of script p s = map (λ r. option_to_list (node_of p r)) (phase_recipes s (statement_of script s))
+phases_of script p s = phases_of_stmt p s (statement_of script s)

@@ -2,7 +2,7 @@
 --
 -- To plan a statement, add its lines here. A statement without lines adds no node and takes over
 -- none: those that need a view, a route or rounds, and `groupedges`.
-use Rattle.std.specs.Prelude.{◌≡◌, ℕ, ◌-◌, Option, None, Some, List, [], ◌∷◌, ◌++◌, map, slice_get, unwrap_or, option_map, refl}
+use Rattle.std.specs.Prelude.{◌≡◌, ℕ, ◌-◌, Option, None, Some, List, [], ◌∷◌, slice_get, unwrap_or, option_map, refl}
 use Rattle.gx_cuts.specs.declared.cut.Cut.{Cut}
 use Rattle.gx_types_stmts.specs.declared.checked_stmt.CheckedStmt.{CheckedStmt}
 use Rattle.gx_types_stmts.specs.declared.typed_stmt.TypedStmt.{TypedStmt}
@@ -78,7 +78,7 @@ inherits _ _ = None
 abbrev pub asks : TypedStmt → Option GraphName
 asks st = None
 
--- what an action demands
+-- the nodes that an action demands, all at once
 abbrev pub demanded_by : TypedStmt → List Recipe
 demanded_by (stmts.PrintVertices g) = recipe_of Vertices g ∷ []
 demanded_by (stmts.PrintEdges g) = recipe_of Edges g ∷ []
@@ -98,11 +98,6 @@ statement_of script s = unwrap_or (option_map (λ c. c.stmt) (slice_get script (
 abbrev pub feeds : ScriptWithCut → Recipe → List Feed
 feeds source r = feeds_kind r.kind (statement_of source.script r.statement) source r
 
--- the nodes that statement s adds, each in a phase of its own; of an action, its one demand
-abbrev pub phase_recipes : ℕ → TypedStmt → List Recipe
-phase_recipes s st = map (λ k. recipe_of k s) (own_kinds st) ++ demanded_by st
-
 -- `mask` adds two nodes; `mapvertices` takes over the edges of its graph
-two-own-nodes : (phase_recipes 3 (stmts.Mask 1 2) ≡ recipe_of Vertices 3 ∷ recipe_of Edges 3 ∷ [])
-    × (inherits Edges (stmts.MapVertices 2 []) ≡ Some 2)
+two-own-nodes : (own_kinds (stmts.Mask 1 2) ≡ Vertices ∷ Edges ∷ []) × (inherits Edges (stmts.MapVertices 2 []) ≡ Some 2)
 two-own-nodes = (refl, refl)

@@ -1,17 +1,18 @@
 //! The plan of a script.
 
-ghost use Rattle.std.specs.Prelude.{◌≡◌, ◌<◌, ◌≤◌, ◌-◌, IfOk, None, false, get_or, length, map, true};
+ghost use Rattle.std.specs.Prelude.{◌≡◌, ◌<◌, ◌≤◌, ◌-◌, ◌++◌, ◌∷◌, [], IfOk, None, OnOk, false, get_or, length, map, true};
 ghost use Rattle.std.specs.Option.{option_to_list};
 ghost use Rattle.gx_lineage.specs.Lineage.{IsSound};
 ghost use Rattle.gx_types.specs.SoundStmts.{AreRun};
 ghost use Rattle.gx_plan.specs.PlanInvariant.{HasNodeFor, IsPlan};
 ghost use Rattle.gx_plan.specs.PlanLaws.{HasSorts, MoveByEnds};
-ghost use Rattle.gx_plan.specs.Plans.{IsAdded, empty_plan, node_of, phases_of, recipe_at};
+ghost use Rattle.gx_plan.specs.Plans.{IsAdded, empty_plan, node_of, nodes_of, phase_at, phases_of, recipe_at};
 ghost use Rattle.gx_plan.specs.Recipes.{recipe_of};
-ghost use Rattle.gx_plan.specs.StmtNodes.{phase_recipes, statement_of};
+ghost use Rattle.gx_plan.specs.StmtNodes as nodes;
+ghost use Rattle.gx_plan.specs.StmtNodes.{statement_of};
 ghost use Rattle.gx_plan.specs.declared.kind.Kind.TheVariants as kinds;
 
-use crate::stmt_nodes::demanded_by;
+use crate::stmt_nodes::{demanded_by, own_kinds};
 use crate::{Kind, Recipe, ResultNodes};
 use gx_cuts::Cut;
 use gx_lineage::{Dag, NodeId};
@@ -162,7 +163,7 @@ impl Plan {
     }
 
     /// The target nodes of each phase of a statement, in order: those that it added, each in a phase
-    /// of its own. For an action it is the one demand.
+    /// of its own. For an action it is the one demand. A phase without a node is left out.
     ///
     /// # Errors
     ///
@@ -173,36 +174,43 @@ impl Plan {
         ensures { IfOk result (λ phases. map (λ v. v.items) phases.items
             ≡ phases_of self.now.source.script self.now.planned s) }
     {
+        let stmt = self.statement(s);
         let mut phases = Vec::new(self.alloc);
-        for r in &self.phase_recipes(s)? {
-            phases.push(self.targets(*r)?)?;
+        for kind in &own_kinds(self.alloc, stmt)? {
+            let own = self.targets(Some(Recipe::of(*kind, s)))?;
+            push_phase(&mut phases, own)?;
         }
+        push_phase(&mut phases, self.demanded(stmt)?)?;
         Ok(phases)
     }
 
-    // What is demanded for statement `s`, phase by phase.
-    fn phase_recipes(&self, s: u32) -> Result<Vec<Recipe>, NoMemory>
-        requires from_one { 1 ≤ s }
-        requires within { s ≤ length self.now.source.script }
-        ensures { IfOk result (λ rs. rs.items
-            ≡ phase_recipes s (statement_of self.now.source.script s)) }
+    // The nodes that an action demands.
+    fn demanded(&self, stmt: &TypedStmt) -> Result<Vec<NodeId>, NoMemory>
+        ensures { IfOk result (λ ns. ns.items
+            ≡ nodes_of self.now.planned (nodes.demanded_by stmt.now)) }
     {
-        let mut recipes = self.own_recipes(s)?;
-        if let Some(r) = demanded_by(self.statement(s)) {
-            recipes.push(r)?;
-        }
-        Ok(recipes)
+        self.targets(demanded_by(stmt))
     }
 
-    // The node of a recipe as the targets of a phase.
-    fn targets(&self, r: Recipe) -> Result<Vec<NodeId>, NoMemory>
-        ensures { IfOk result (λ ns. ns.items ≡ option_to_list (node_of self.now.planned r)) }
+    // The node of a recipe, if there is one, as the targets of a phase.
+    fn targets(&self, r: Option<Recipe>) -> Result<Vec<NodeId>, NoMemory>
+        ensures { IfOk result (λ ns. ns.items ≡ nodes_of self.now.planned (option_to_list r)) }
     {
         let mut targets = Vec::new(self.alloc);
+        if let Some(r) = r {
+            self.push_target(&mut targets, r)?;
+        }
+        Ok(targets)
+    }
+
+    fn push_target(&self, targets: &mut Vec<NodeId>, r: Recipe) -> Result<(), NoMemory>
+        ensures { OnOk result (targets.new.items
+            ≡ targets.old.items ++ nodes_of self.now.planned (r ∷ [])) }
+    {
         if let Some(node) = self.node(r) {
             targets.push(node)?;
         }
-        Ok(targets)
+        Ok(())
     }
 
     // The node at which a recipe is found.
@@ -223,4 +231,15 @@ impl Plan {
     {
         self.typed.statement(s)
     }
+}
+
+// Adds the phase of these nodes, if there are some.
+fn push_phase(phases: &mut Vec<Vec<NodeId>>, targets: Vec<NodeId>) -> Result<(), NoMemory>
+    ensures { OnOk result (map (λ v. v.items) phases.new.items
+        ≡ map (λ v. v.items) phases.old.items ++ phase_at targets.items) }
+{
+    if !targets.is_empty() {
+        phases.push(targets)?;
+    }
+    Ok(())
 }
