@@ -3,7 +3,7 @@ use Rattle.std.proofs.Common.{◌≡◌, ℕ, zero, suc, ◌+◌, ◌-◌, ◌<�
 use Rattle.std.proofs.lemmas.List.{get_or_append_left, length-append}
 use Rattle.std.proofs.Math.Seq.{get_or-append_seam}
 use Rattle.std.specs.List.{AllByRecursion, slice_get}
-use Rattle.std.specs.Option.{option_and_then, option_or, option_to_list}
+use Rattle.std.specs.Option.{option_and_then, option_or}
 use Rattle.gx_lineage.specs.declared.node_id.NodeId.{NodeId}
 use Rattle.gx_model.specs.ScriptMeaning.{fault_of_number, plain_values}
 use Rattle.gx_model.specs.StmtFaults.{fault_of_stmt}
@@ -26,7 +26,7 @@ use Rattle.gx_exec.specs.Courses.{Course, fault_of_phase, forced, forced_all, jo
 use Rattle.gx_exec.specs.Engines.{AreQuiet, IsSteady, MayForce}
 use Rattle.gx_exec.proofs.CourseRuns.{front-same, joined-front}
 use Rattle.gx_exec.proofs.FreshStatements.{fresh-result}
-use Rattle.gx_exec.proofs.PhaseOrder.{demanded-added, demanded-earlier, fresh-front, nodes_from, phases-are, recipes-after}
+use Rattle.gx_exec.proofs.PhaseOrder.{demanded-earlier, fresh-front, nodes_from, phases-are, recipes-after}
 use Rattle.gx_exec.proofs.ModelFaults.{model-fault}
 use Rattle.gx_exec.proofs.QuietPlans.{quiet-fault}
 

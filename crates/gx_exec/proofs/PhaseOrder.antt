@@ -16,11 +16,11 @@ use Rattle.gx_plan.proofs.OneStatement.{added-front, added-plan, recipes-kept}
 use Rattle.gx_types_stmts.specs.StmtNumbers.{named_numbers}
 use Rattle.gx_types_stmts.specs.declared.typed_stmt.TypedStmt.{TypedStmt}
 use Rattle.gx_types_stmts.specs.declared.typed_stmt.TypedStmt.TheVariants as stmts
-use Rattle.gx_exec_contents.specs.Worlds.{IsSetting, source_of}
+use Rattle.gx_exec_contents.specs.Worlds.{IsSetting, World, source_of}
 use Rattle.gx_exec_work.specs.Works.{PlannedWorld}
 use Rattle.gx_exec.specs.Courses.{was_added}
 use Rattle.gx_exec.specs.Engines.{AreQuiet, MayForce}
-use Rattle.gx_exec.specs.Phases.{AreInOrder, AreNext}
+use Rattle.gx_exec.specs.Phases.{AreFaultless, AreInOrder, AreNext}
 use Rattle.gx_exec.proofs.FreshStatements.{fresh-result, result-here}
 use Rattle.gx_exec.proofs.QuietPlans.{quiet-kept}
 
@@ -68,14 +68,18 @@ node_of-fresh p q s st Edges at = ap (λ o. node_in Edges (unwrap_or o no_nodes)
 
 -- ---- in order
 
-order-from : (nodes n count : ℕ) (rest : List (List NodeId)) → AreInOrder nodes (n + count) rest → AreInOrder nodes n (nodes_from n count ++ rest)
-order-from nodes n zero rest order = subst (λ m. AreInOrder nodes m rest) (let same : n + 0 ≡ n = omega arith in same) order
-order-from nodes n (suc count) rest order =
-    inr (refl, order-from nodes (n + 1) count rest (subst (λ m. AreInOrder nodes m rest) (let same : n + suc count ≡ n + 1 + count = omega arith in same) order))
+no_gap : (w : World) (p : Planned) (n : ℕ) → n ≤ length p.lineage.nodes → AreFaultless w p n n
+no_gap w p n within = record { order = omega arith; within = within; none = λ k from below. absurd (omega (arith, from, below)) }
 
-order-earlier : (nodes n : ℕ) (phases : List (List NodeId)) → n ≡ nodes → AllByRecursion (λ ns. AllByRecursion (λ m. m.0 < n) ns) phases → AreInOrder nodes n phases
-order-earlier nodes n [] last below = last
-order-earlier nodes n (ns ∷ phases) last below = inl (below.0, order-earlier nodes n phases last below.1)
+order-from : (w : World) (p : Planned) (n count : ℕ) (rest : List (List NodeId)) → n + count ≤ length p.lineage.nodes → AreInOrder w p (n + count) rest → AreInOrder w p n (nodes_from n count ++ rest)
+order-from w p n zero rest within order = subst (λ m. AreInOrder w p m rest) (let same : n + 0 ≡ n = omega arith in same) order
+order-from w p n (suc count) rest within order =
+    (n, (no_gap w p n (omega (arith, within)), inr (refl, order-from w p (n + 1) count rest (omega (arith, within))
+    (subst (λ m. AreInOrder w p m rest) (let same : n + suc count ≡ n + 1 + count = omega arith in same) order))))
+
+order-earlier : (w : World) (p : Planned) (n : ℕ) (phases : List (List NodeId)) → n ≡ length p.lineage.nodes → AllByRecursion (λ ns. AllByRecursion (λ m. m.0 < n) ns) phases → AreInOrder w p n phases
+order-earlier w p n [] last below = subst (AreFaultless w p n) last (no_gap w p n (omega (arith, last)))
+order-earlier w p n (ns ∷ phases) last below = (n, (no_gap w p n (omega (arith, last)), inl (below.0, order-earlier w p n phases last below.1)))
 
 -- ---- what an action demands
 
@@ -166,9 +170,8 @@ module _ (e : PlannedWorld) (setting : IsSetting e.world e.planned) (s : ℕ) (m
   phases-next quiet = record {
     at = length p.lineage.nodes;
     quiet = quiet-kept e.world p q setting fresh-front quiet;
-    order = subst (AreInOrder (length q.lineage.nodes) (length p.lineage.nodes)) (sym phases-are)
-        (order-from (length q.lineage.nodes) (length p.lineage.nodes) (length (own_kinds st)) (phase_at (nodes_of q (demanded_by st)))
-        (order-earlier (length q.lineage.nodes) (length p.lineage.nodes + length (own_kinds st)) (phase_at (nodes_of q (demanded_by st))) (sym nodes-after)
-        (later-below (length p.lineage.nodes) (length p.lineage.nodes + length (own_kinds st)) (phase_at (nodes_of q (demanded_by st))) (omega arith)
-        demanded-earlier)));
+    order = subst (AreInOrder e.world q (length p.lineage.nodes)) (sym phases-are)
+        (order-from e.world q (length p.lineage.nodes) (length (own_kinds st)) (phase_at (nodes_of q (demanded_by st))) (omega (arith, nodes-after))
+        (order-earlier e.world q (length p.lineage.nodes + length (own_kinds st)) (phase_at (nodes_of q (demanded_by st))) (sym nodes-after)
+        (later-below (length p.lineage.nodes) (length p.lineage.nodes + length (own_kinds st)) (phase_at (nodes_of q (demanded_by st))) (omega arith) demanded-earlier)));
   }

@@ -2,9 +2,14 @@
 
 ghost use Rattle.std.specs.Prelude.{◌≡◌, ◌≤◌, ◌-◌, IfOk, None, OnErr, OnOk, get_or, length};
 ghost use Rattle.std.specs.List.{AllByRecursion};
+ghost use Rattle.gx_cluster.specs.States.{AreContents};
+ghost use Rattle.gx_cluster_state.specs.Values.{pointed_values};
+ghost use Rattle.gx_exec_contents.specs.BlockContents.{recipe_of_block};
+ghost use Rattle.gx_exec_contents.specs.MadeBlocks.{made_by};
 ghost use Rattle.gx_exec_contents.specs.Worlds.{IsSetting, IsWorld, source_of};
 ghost use Rattle.gx_exec_work.specs.FittingInputs.{contents_of_inputs-fit};
-ghost use Rattle.gx_exec_work.specs.Works.{FitsBlock, IsContentOf, freight_of};
+ghost use Rattle.gx_exec_work.specs.Works.{FitsBlock, IsContentOf, freight_of, shown, shown_blocks};
+ghost use Rattle.gx_lineage.specs.Lineage.{IsBlock, block_inputs};
 ghost use Rattle.gx_plan.specs.PlanInvariant.{IsFrontOf};
 ghost use Rattle.gx_plan.specs.Plans.{IsAdded, empty_plan, with_number};
 ghost use Rattle.gx_plan.specs.StmtNodes.{statement_of};
