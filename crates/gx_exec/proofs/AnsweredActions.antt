@@ -1,7 +1,7 @@
 -- Statements that are forced in order, and the action after them.
-use Rattle.std.proofs.Common.{◌≡◌, ◌≢◌, ℕ, ◌-◌, ◌≤◌, true, false, List, [], ◌∷◌, length, map, Option, Some, None, IsSome, inl, Err, refl, sym, ap, ◌∙◌, subst, arith}
+use Rattle.std.proofs.Common.{◌≡◌, ◌≢◌, ◌⊎◌, ℕ, ◌-◌, ◌≤◌, ◌==◌, Bool, true, false, if◌then◌else◌, List, [], ◌∷◌, length, Option, Some, None, IsSome, inl, inr, Err, refl, sym, ap, ◌∙◌, subst, arith}
 use Rattle.std.specs.List.{AllByRecursion, flat_map, slice_get}
-use Rattle.std.specs.Option.{option_and_then, option_to_list}
+use Rattle.std.specs.Option.{option_and_then}
 use Rattle.std.proofs.lemmas.List.{append-nil}
 use Rattle.gx_cluster.specs.States.{State}
 use Rattle.gx_cluster_state.specs.Nets.{Net}
@@ -14,11 +14,10 @@ use Rattle.gx_model.specs.NamesUsed.{stmts_used}
 use Rattle.gx_model.specs.ScriptMeaning.{Loaded, fault_among, fault_of_action, fault_of_number, first_fault, plain_values, stmts_in}
 use Rattle.gx_model.specs.StmtFaults.{fault_of_stmt}
 use Rattle.gx_plan.specs.PlanInvariant.{IsFrontOf}
-use Rattle.gx_plan.specs.Plans.{IsAdded, Planned, node_of, phases_of}
+use Rattle.gx_plan.specs.Plans.{IsAdded, Planned, nodes_of, phase_at, phases_of, phases_of_stmt}
 use Rattle.gx_plan.specs.Recipes.{recipe_of}
-use Rattle.gx_plan.specs.StmtNodes.{phase_recipes, statement_of}
+use Rattle.gx_plan.specs.StmtNodes.{statement_of}
 use Rattle.gx_plan.specs.declared.kind.Kind.TheVariants as kind
-use Rattle.gx_plan.specs.declared.recipe.Recipe.{Recipe}
 use Rattle.gx_plan.proofs.Fronts.{fronts-joined}
 use Rattle.gx_rows.specs.declared.fault.Fault.{Fault}
 use Rattle.gx_types_stmts.specs.declared.checked_stmt.CheckedStmt.{CheckedStmt}
@@ -181,44 +180,76 @@ action-exact A B l a run_stop.NoMemory is exact = tt
 
 -- ---- its blocks are held
 
-demands-one : {A : Type 0} (checked : List CheckedStmt) (gs : List (Graph A)) (s : ℕ) (st : TypedStmt) → IsSome (answer_of_stmt checked gs st) → (r : Recipe) × (phase_recipes s st ≡ r ∷ [])
-demands-one checked gs s (stmts.PrintVertices g) is = (recipe_of kind.Vertices g, refl)
-demands-one checked gs s (stmts.PrintEdges g) is = (recipe_of kind.Edges g, refl)
-demands-one checked gs s (stmts.PrintTable t) is = (recipe_of kind.Vertices t, refl)
-demands-one checked gs s (stmts.CountVertices g) is = (recipe_of kind.Vertices g, refl)
-demands-one checked gs s (stmts.CountEdges g) is = (recipe_of kind.Edges g, refl)
-demands-one checked gs s (stmts.CountTable t) is = (recipe_of kind.Vertices t, refl)
-demands-one checked gs s _ is = absurd (not_true is)
+demands-one : {A : Type 0} (checked : List CheckedStmt) (gs : List (Graph A)) (p : Planned) (s : ℕ) (st : TypedStmt) → IsSome (answer_of_stmt checked gs st) → (ns : List NodeId) × (phases_of_stmt p s st ≡ phase_at ns)
+demands-one checked gs p s (stmts.PrintVertices g) is = (nodes_of p (recipe_of kind.Vertices g ∷ []), refl)
+demands-one checked gs p s (stmts.PrintEdges g) is = (nodes_of p (recipe_of kind.Edges g ∷ []), refl)
+demands-one checked gs p s (stmts.PrintTable t) is = (nodes_of p (recipe_of kind.Vertices t ∷ []), refl)
+demands-one checked gs p s (stmts.CountVertices g) is = (nodes_of p (recipe_of kind.Vertices g ∷ []), refl)
+demands-one checked gs p s (stmts.CountEdges g) is = (nodes_of p (recipe_of kind.Edges g ∷ []), refl)
+demands-one checked gs p s (stmts.CountTable t) is = (nodes_of p (recipe_of kind.Vertices t ∷ []), refl)
+demands-one checked gs p s _ is = absurd (not_true is)
 
-one-phase : (w : World) (s : ℕ) → 1 ≤ s → s ≤ length w.script → IsSome (action_answer (loaded_in w) s) → (p : Planned) → (ns : List NodeId) × (phases_of w.script p s ≡ ns ∷ [])
+one-phase : (w : World) (s : ℕ) → 1 ≤ s → s ≤ length w.script → IsSome (action_answer (loaded_in w) s) → (p : Planned) → (ns : List NodeId) × (phases_of w.script p s ≡ phase_at ns)
 one-phase w s low high is p =
     let st = statement_of w.script s in
     let of_stmt : IsSome (option_and_then (answer_of_stmt w.script (plain_values (loaded_in w))) (Some st)) =
     subst (λ o. IsSome (option_and_then (answer_of_stmt w.script (plain_values (loaded_in w))) o)) (found-statement w.script (s - 1) (omega (arith, low, high))) is in
-    let one = demands-one w.script (plain_values (loaded_in w)) s st of_stmt in
-    (option_to_list (node_of p one.0), ap (map (λ r. option_to_list (node_of p r))) one.1)
+    demands-one w.script (plain_values (loaded_in w)) p s st of_stmt
+
+-- a phase is left out, or it is of its nodes
+phase_at-cases : (ns : List NodeId) → (phase_at ns ≡ []) ⊎ (phase_at ns ≡ ns ∷ [])
+phase_at-cases ns = by (length ns == 0)
+  where
+    by : (b : Bool) → ((if b then [] else ns ∷ []) ≡ []) ⊎ ((if b then [] else ns ∷ []) ≡ ns ∷ [])
+    by true = inl refl
+    by false = inr refl
 
 one-held : (n : Net) (f : Option Fault) (w : World) (s : ℕ) (ns : List NodeId) (q : Planned) (x y : Point) → fault_of_phase w q s ns ≡ f → (joined f (phase w s ns q) (still q)).fault ≡ None
     → Run n (joined f (phase w s ns q) (still q)).commands x y → all_held y.shape (targets_of w ns) ≡ true
 one-held n None w s ns q x y is none run = subst (λ z. all_held z.shape (targets_of w ns) ≡ true) (sym run.2) run.1.held
 one-held n (Some f) w s ns q x y is none run = let contrary : Some f ≡ None = sym is ∙ none in absurd (cc)
 
+-- all targets of the phases of an action are held
+abbrev ArePhasesHeld : Point → World → Planned → ℕ → Type 0
+ArePhasesHeld y w p a = all_held y.shape (targets_of w (flat_map (λ ns. ns) (phases_of w.script p a))) ≡ true
+
+joined-still : (h : Option Fault) (c : Course) → (joined h c (still c.planned)).planned ≡ c.planned
+joined-still None c = refl
+joined-still (Some h) c = refl
+
+module _ (e f : PlannedWorld) (a : ℕ) (fresh : was_added e.planned a ≡ false) (x y : Point) (same : f.world ≡ e.world) (ends : EndsAs e.world (forced e.world e.planned a) None f.planned x y) where
+  abbrev w : World
+  w = e.world
+
+  abbrev q : Planned
+  q = (with_stmt e a).planned
+
+  -- the course, by its phases
+  course-by : (nss : List (List NodeId)) → phases_of e.world.script (with_stmt e a).planned a ≡ nss → EndsAs e.world (phases e.world a nss (with_stmt e a).planned) None f.planned x y
+  course-by nss are = subst (λ c. EndsAs w c None f.planned x y) (forced-phases e a fresh ∙ ap (λ mss. phases w a mss q) are) ends
+
+  held-as : (nss : List (List NodeId)) → phases_of w.script q a ≡ nss → f.planned ≡ q → all_held y.shape (targets_of w (flat_map (λ ns. ns) nss)) ≡ true → ArePhasesHeld y f.world f.planned a
+  held-as nss are left held =
+      subst (λ v. ArePhasesHeld y v f.planned a) (sym same)
+      (subst (λ r. ArePhasesHeld y w r a) (sym left)
+      (subst (λ mss. all_held y.shape (targets_of w (flat_map (λ ns. ns) mss)) ≡ true) (sym are) held))
+
+  phases-held : (ns : List NodeId) → phases_of e.world.script (with_stmt e a).planned a ≡ ns ∷ [] → ArePhasesHeld y f.world f.planned a
+  phases-held ns are =
+      let now : EndsAs w (phases w a (ns ∷ []) q) None f.planned x y = course-by (ns ∷ []) are in
+      let left : f.planned ≡ q = now.planned ∙ joined-still (fault_of_phase w q a ns) (phase w a ns q) in
+      let held : all_held y.shape (targets_of w ns) ≡ true = one-held (net_in w f.planned) (fault_of_phase w q a ns) w a ns q x y refl now.fault
+      (now.run f.planned (subst (λ r. IsFrontOf r f.planned) now.planned (front-same f.planned))) in
+      held-as (ns ∷ []) are left (subst (λ ms. all_held y.shape (targets_of w ms) ≡ true) (sym (append-nil ns)) held)
+
+  no_phase-held : phases_of e.world.script (with_stmt e a).planned a ≡ [] → ArePhasesHeld y f.world f.planned a
+  no_phase-held are = held-as [] are (course-by [] are).planned refl
+
 pub action-held : (e f : PlannedWorld) (a : ℕ) → 1 ≤ a → a ≤ length e.world.script → IsSome (action_answer (loaded_in e.world) a) → was_added e.planned a ≡ false → (x y : Point)
     → f.world ≡ e.world → EndsAs e.world (forced e.world e.planned a) None f.planned x y → all_held y.shape (targets_of f.world (flat_map (λ ns. ns) (phases_of f.world.script f.planned a))) ≡ true
 action-held e f a low high is fresh x y same ends =
-    let w = e.world in
-    let g : PlannedWorld = with_stmt e a in
-    let one = one-phase w a low high is g.planned in
-    let course : forced w e.planned a ≡ phases w a (one.0 ∷ []) g.planned = forced-phases e a fresh ∙ ap (λ nss. phases w a nss g.planned) one.1 in
-    let now : EndsAs w (phases w a (one.0 ∷ []) g.planned) None f.planned x y = subst (λ c. EndsAs w c None f.planned x y) course ends in
-    let left : f.planned ≡ g.planned = now.planned ∙ joined-still (fault_of_phase w g.planned a one.0) (phase w a one.0 g.planned) in
-    let held : all_held y.shape (targets_of w one.0) ≡ true = one-held (net_in w f.planned) (fault_of_phase w g.planned a one.0) w a one.0 g.planned x y refl now.fault
-    (now.run f.planned (subst (λ r. IsFrontOf r f.planned) now.planned (front-same f.planned))) in
-    subst (λ v. all_held y.shape (targets_of v (flat_map (λ ns. ns) (phases_of v.script f.planned a))) ≡ true) (sym same)
-    (subst (λ r. all_held y.shape (targets_of w (flat_map (λ ns. ns) (phases_of w.script r a))) ≡ true) (sym left)
-    (subst (λ nss. all_held y.shape (targets_of w (flat_map (λ ns. ns) nss)) ≡ true) (sym one.1)
-    (subst (λ ns. all_held y.shape (targets_of w ns) ≡ true) (sym (append-nil one.0)) held)))
-  where
-    joined-still : (h : Option Fault) (c : Course) → (joined h c (still c.planned)).planned ≡ c.planned
-    joined-still None c = refl
-    joined-still (Some h) c = refl
+    let one = one-phase e.world a low high is (with_stmt e a).planned in
+    elim (phase_at-cases one.0) [
+      | inl none ↦ no_phase-held e f a fresh x y same ends (one.1 ∙ none)
+      | inr some ↦ phases-held e f a fresh x y same ends one.0 (one.1 ∙ some)
+    ]

@@ -3,14 +3,14 @@ use Rattle.std.proofs.Common.{◌≡◌, ℕ, zero, suc, ◌+◌, ◌-◌, ◌<�
 use Rattle.std.proofs.lemmas.List.{get_or_append_left, length-append}
 use Rattle.std.proofs.Math.Seq.{get_or-append_seam}
 use Rattle.std.specs.List.{AllByRecursion, slice_get}
-use Rattle.std.specs.Option.{option_and_then, option_or, option_to_list}
+use Rattle.std.specs.Option.{option_and_then, option_or}
 use Rattle.gx_lineage.specs.declared.node_id.NodeId.{NodeId}
 use Rattle.gx_model.specs.ScriptMeaning.{fault_of_number, plain_values}
 use Rattle.gx_model.specs.StmtFaults.{fault_of_stmt}
 use Rattle.gx_plan.specs.PlanInvariant.{IsFrontOf}
-use Rattle.gx_plan.specs.Plans.{Planned, node_of, phases_of, recipe_at, with_number}
+use Rattle.gx_plan.specs.Plans.{Planned, nodes_of, own_recipes, phase_at, phases_of, recipe_at, with_number}
 use Rattle.gx_plan.specs.Recipes.{recipe_of}
-use Rattle.gx_plan.specs.StmtNodes.{demanded_by, own_kinds, own_recipes, statement_of}
+use Rattle.gx_plan.specs.StmtNodes.{demanded_by, own_kinds, statement_of}
 use Rattle.gx_plan.specs.declared.kind.Kind.{Kind}
 use Rattle.gx_plan.specs.declared.recipe.Recipe.{Recipe}
 use Rattle.gx_plan.proofs.OneStatement.{added-front}
@@ -20,13 +20,13 @@ use Rattle.gx_types_stmts.specs.declared.typed_stmt.TypedStmt.{TypedStmt}
 use Rattle.gx_types_stmts.specs.declared.typed_stmt.TypedStmt.TheVariants as stmts
 use Rattle.gx_exec_contents.specs.PartContents.{fault_kind, first_given}
 use Rattle.gx_exec_contents.specs.PhaseFaults.{fault_in, fault_of_stop}
-use Rattle.gx_exec_contents.specs.Worlds.{IsSetting, World, loaded_in, value_in}
+use Rattle.gx_exec_contents.specs.Worlds.{IsSetting, World, loaded_in, source_of}
 use Rattle.gx_exec_work.specs.Works.{PlannedWorld}
 use Rattle.gx_exec.specs.Courses.{Course, fault_of_phase, forced, forced_all, joined, phase, phases, still, was_added}
 use Rattle.gx_exec.specs.Engines.{AreQuiet, IsSteady, MayForce}
 use Rattle.gx_exec.proofs.CourseRuns.{front-same, joined-front}
 use Rattle.gx_exec.proofs.FreshStatements.{fresh-result}
-use Rattle.gx_exec.proofs.PhaseOrder.{demanded-added, demanded-earlier, fresh-front, nodes_from, phases-are, recipes-after}
+use Rattle.gx_exec.proofs.PhaseOrder.{demanded-earlier, fresh-front, nodes_from, phases-are, recipes-after}
 use Rattle.gx_exec.proofs.ModelFaults.{model-fault}
 use Rattle.gx_exec.proofs.QuietPlans.{quiet-fault}
 
@@ -43,11 +43,11 @@ phases-planned w s (ns ∷ nss) p = joined-planned (fault_of_phase w p s ns) (ph
 pub front-forced : (w : World) (p : Planned) (s : ℕ) → 1 ≤ s → IsFrontOf p (forced w p s).planned
 front-forced w p s from_one = by (was_added p s) refl
   where
-    by : (b : Bool) → was_added p s ≡ b → IsFrontOf p (if b then still p else phases w s (phases_of w.script (with_number w.script p s) s) (with_number w.script p s)).planned
+    by : (b : Bool) → was_added p s ≡ b → IsFrontOf p (if b then still p else phases w s (phases_of w.script (with_number (source_of w) p s) s) (with_number (source_of w) p s)).planned
     by true e = front-same p
     by false e =
-        subst (IsFrontOf p) (sym (phases-planned w s (phases_of w.script (with_number w.script p s) s) (with_number w.script p s)))
-        (added-front w.script p s from_one (fresh-result p s e))
+        subst (IsFrontOf p) (sym (phases-planned w s (phases_of w.script (with_number (source_of w) p s) s) (with_number (source_of w) p s)))
+        (added-front (source_of w) p s from_one (fresh-result p s e))
 
 pub front-forced_all : (w : World) (p : Planned) (ss : List ℕ) → AllByRecursion (λ s. 1 ≤ s) ss → IsFrontOf p (forced_all w p ss).planned
 front-forced_all w p [] low = front-same p
@@ -80,7 +80,7 @@ or-none (Some x) = refl
 
 -- the phases of own nodes
 own-faults : (w : World) (q : Planned) (s : ℕ) (before : List Recipe) (ks : List Kind) (n : ℕ) → q.recipes ≡ before ++ map (λ k. recipe_of k s) ks → n ≡ length before
-    → first_given (fault_of_phase w q s) (nodes_from n (length ks)) ≡ first_given (λ k. option_map (fault_of_stop s) (fault_kind k (value_in w) (statement_of w.script s))) ks
+    → first_given (fault_of_phase w q s) (nodes_from n (length ks)) ≡ first_given (λ k. option_map (fault_of_stop s) (fault_kind w k (recipe_of k s) (λ g. g) (statement_of w.script s))) ks
 own-faults w q s before [] n is at = refl
 own-faults w q s before (k ∷ ks) n is at =
     let here : recipe_at q.recipes n ≡ recipe_of k s = ap₂ recipe_at is at ∙ get_or-append_seam before (recipe_of k s) (map (λ j. recipe_of j s) ks) _ in
@@ -121,14 +121,14 @@ module _ (e : PlannedWorld) (setting : IsSetting e.world e.planned) (s : ℕ) (m
   p = e.planned
 
   abbrev q : Planned
-  q = with_number e.world.script e.planned s
+  q = with_number (source_of e.world) e.planned s
 
   abbrev st : TypedStmt
   st = statement_of e.world.script s
 
   fresh-fault : AreQuiet e → was_added p s ≡ false → (phases w s (phases_of w.script q s) q).fault ≡ fault_of_number (loaded_in w) s
   fresh-fault quiet fresh =
-      let demanded = map (λ r. option_to_list (node_of q r)) (demanded_by st) in
+      let demanded = phase_at (nodes_of q (demanded_by st)) in
       let own = nodes_from (length p.lineage.nodes) (length (own_kinds st)) in
       let is_front : IsFrontOf p q = fresh-front e setting s may fresh in
       phases-fault w s (phases_of w.script q s) q
@@ -139,13 +139,13 @@ module _ (e : PlannedWorld) (setting : IsSetting e.world e.planned) (s : ℕ) (m
       ∙ model-fault w s st ∙ sym (number-fault w s may.from_one may.within))
       (earlier-faults w q s (length p.lineage.nodes) demanded
       (λ n below. ap (fault_in w) (kept-recipe n below) ∙ quiet-fault w p setting quiet n below)
-      (demanded-earlier e setting s may fresh (demanded_by st) (demanded-added e setting s may fresh)))
+      (demanded-earlier e setting s may fresh))
       ∙ or-none (fault_of_number (loaded_in w) s)
     where
       kept-recipe : (n : NodeId) → n.0 < length p.lineage.nodes → recipe_at q.recipes n.0 ≡ recipe_at p.recipes n.0
       kept-recipe n below =
           ap (λ rs. recipe_at rs n.0) (recipes-after e setting s may fresh)
-          ∙ get_or_append_left p.recipes (own_recipes s st) _ n.0 (omega (arith, below, setting.plan.recipes))
+          ∙ get_or_append_left p.recipes (own_recipes p s st) _ n.0 (omega (arith, below, setting.plan.recipes))
 
   pub forced-fault : IsSteady e → (forced e.world e.planned s).fault ≡ fault_of_number (loaded_in e.world) s
   forced-fault steady = by (was_added p s) refl

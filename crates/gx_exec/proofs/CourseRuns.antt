@@ -20,7 +20,7 @@ front-same p = record {
   nodes = sym (append-nil p.lineage.nodes);
   more_recipes = [];
   recipes = sym (append-nil p.recipes);
-  results = λ r added. refl;
+  results = λ s added. refl;
   added = λ s added. added;
 }
 

@@ -6,7 +6,7 @@ use Rattle.gx_lineage.specs.declared.node_id.NodeId.{NodeId}
 use Rattle.gx_model.specs.ScriptMeaning.{fault_of_number}
 use Rattle.gx_plan.specs.PlanInvariant.{IsFrontOf}
 use Rattle.gx_plan.specs.Plans.{IsAdded, Planned, phases_of, with_number}
-use Rattle.gx_exec_contents.specs.Worlds.{IsSetting, World, loaded_in}
+use Rattle.gx_exec_contents.specs.Worlds.{IsSetting, World, loaded_in, source_of}
 use Rattle.gx_exec_work.specs.Works.{PlannedWorld}
 use Rattle.gx_exec_work.specs.declared.block.Block.{Block}
 use Rattle.gx_exec.specs.declared.run_stop.RunStop.{RunStop}
@@ -35,8 +35,8 @@ phases_in e s = phases_of e.world.script e.planned s
 abbrev pub phased : PlannedWorld → ℕ → Course
 phased e s = phases e.world s (phases_of e.world.script e.planned s) e.planned
 
-forced-if : (w : World) (p : Planned) (s : ℕ) (b : Bool) → was_added p s ≡ b → forced w p s ≡ cond b (still p) (phases w s (phases_of w.script (with_number w.script p s) s) (with_number w.script p s))
-forced-if w p s b is = ap (λ x. cond x (still p) (phases w s (phases_of w.script (with_number w.script p s) s) (with_number w.script p s))) is
+forced-if : (w : World) (p : Planned) (s : ℕ) (b : Bool) → was_added p s ≡ b → forced w p s ≡ cond b (still p) (phases w s (phases_of w.script (with_number (source_of w) p s) s) (with_number (source_of w) p s))
+forced-if w p s b is = ap (λ x. cond x (still p) (phases w s (phases_of w.script (with_number (source_of w) p s) s) (with_number (source_of w) p s))) is
 
 pub forced-still : (w : World) (p : Planned) (s : ℕ) → was_added p s ≡ true → forced w p s ≡ still p
 forced-still w p s was = forced-if w p s true was
@@ -69,7 +69,7 @@ module _ (e f : PlannedWorld) (s : ℕ) (fresh : was_added e.planned s ≡ false
     after-next = subst (λ g. AreNext g (phases_in g s)) (sym is) (phases-next e setting s may fresh steady.quiet)
 
     pub after-contents : (c : State Block) → HoldsWorkOf e c → HoldsWorkOf f c
-    after-contents c contents = subst (λ g. HoldsWorkOf g c) (sym is) (work-kept e.world e.planned (with_number e.world.script e.planned s) setting (fresh-front e setting s may fresh) c contents)
+    after-contents c contents = subst (λ g. HoldsWorkOf g c) (sym is) (work-kept e.world e.planned (with_number (source_of e.world) e.planned s) setting (fresh-front e setting s may fresh) c contents)
 
     pub after-added : IsAdded f.planned s
     after-added = subst (λ g. IsAdded g.planned s) (sym is) (added-here e.world.script e.planned s may.from_one setting.plan may.within)

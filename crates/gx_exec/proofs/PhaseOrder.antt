@@ -1,38 +1,30 @@
 -- The phases of a statement that was just added are in order.
-use Rattle.std.proofs.Common.{◌≡◌, ℕ, zero, suc, ◌+◌, ◌<◌, ◌≤◌, Bool, true, false, List, [], ◌∷◌, ◌++◌, inl, inr, Option, Some, None, length, map, unwrap_or, refl, sym, ap, ◌∙◌, subst, arith}
+use Rattle.std.proofs.Common.{◌≡◌, ℕ, zero, suc, ◌+◌, ◌-◌, ◌<◌, ◌≤◌, ◌==◌, Bool, true, false, if◌then◌else◌, List, [], ◌∷◌, ◌++◌, inl, inr, Option, Some, None, get_or, length, map, unwrap_or, refl, sym, ap, ◌∙◌, subst, arith}
 use Rattle.std.proofs.lemmas.List.{length-append, length-map}
-use Rattle.std.specs.List.{AllByRecursion, range_with_len}
-use Rattle.std.specs.Option.{option_or, option_to_list}
+use Rattle.std.specs.List.{AllByRecursion, cons_option, flat_map, range_with_len}
+use Rattle.std.specs.Option.{option_or}
 use Rattle.gx_lineage.specs.declared.node_id.NodeId.{NodeId}
 use Rattle.gx_plan.specs.PlanInvariant.{IsFrontOf, IsNodeFor, IsPlan}
-use Rattle.gx_plan.specs.Plans.{IsAdded, Planned, inherited_node, no_nodes, node_in, node_of, own_node, phases_of, result_node, result_of, with_number}
-use Rattle.gx_plan.specs.Recipes.{recipe_of}
-use Rattle.gx_plan.specs.StmtNodes.{demanded_by, inherits, own_kinds, own_recipes, statement_of}
+use Rattle.gx_plan.specs.Plans.{IsAdded, Planned, inherited_node, no_nodes, node_in, node_of, nodes_of, own_node, own_phases, own_recipes, phase_at, phases_of, result_node, result_of, with_number}
+use Rattle.gx_plan.specs.Recipes.{is_result, recipe_of}
+use Rattle.gx_plan.specs.StmtNodes.{ScriptWithCut, demanded_by, inherits, own_kinds, statement_of}
 use Rattle.gx_plan.specs.declared.kind.Kind.{Kind}
 use Rattle.gx_plan.specs.declared.kind.Kind.TheVariants.{Vertices, Edges}
 use Rattle.gx_plan.specs.declared.recipe.Recipe.{Recipe}
+use Rattle.gx_plan.proofs.Fronts.{front-node_of}
 use Rattle.gx_plan.proofs.OneStatement.{added-front, added-plan, recipes-kept}
 use Rattle.gx_types_stmts.specs.StmtNumbers.{named_numbers}
-use Rattle.gx_types_stmts.specs.declared.checked_stmt.CheckedStmt.{CheckedStmt}
 use Rattle.gx_types_stmts.specs.declared.typed_stmt.TypedStmt.{TypedStmt}
 use Rattle.gx_types_stmts.specs.declared.typed_stmt.TypedStmt.TheVariants as stmts
-use Rattle.gx_exec_contents.specs.Worlds.{IsSetting}
+use Rattle.gx_exec_contents.specs.Worlds.{IsSetting, World, source_of}
 use Rattle.gx_exec_work.specs.Works.{PlannedWorld}
 use Rattle.gx_exec.specs.Courses.{was_added}
 use Rattle.gx_exec.specs.Engines.{AreQuiet, MayForce}
-use Rattle.gx_exec.specs.Phases.{AreInOrder, AreNext}
+use Rattle.gx_exec.specs.Phases.{AreFaultless, AreInOrder, AreNext}
 use Rattle.gx_exec.proofs.FreshStatements.{fresh-result, result-here}
 use Rattle.gx_exec.proofs.QuietPlans.{quiet-kept}
 
 -- ---- lists of phases
-
-map-append : {A B : Type 0} (f : A → B) (xs ys : List A) → map f (xs ++ ys) ≡ map f xs ++ map f ys
-map-append f [] ys = refl
-map-append f (x ∷ xs) ys = ap (λ zs. f x ∷ zs) (map-append f xs ys)
-
-map-map : {A B C : Type 0} (g : B → C) (f : A → B) (xs : List A) → map g (map f xs) ≡ map (λ x. g (f x)) xs
-map-map g f [] = refl
-map-map g f (x ∷ xs) = ap (λ zs. g (f x) ∷ zs) (map-map g f xs)
 
 -- the phase of one node
 abbrev pub one_node : ℕ → List NodeId
@@ -56,7 +48,7 @@ own-distinct _ = refl
 
 -- each own node is found where it was added
 own-nodes : (ks : List Kind) (n : ℕ) (taken : Kind → Option NodeId) → are_distinct ks ≡ true
-    → map (λ k. option_to_list (option_or (own_node n k ks) (taken k))) ks ≡ nodes_from n (length ks)
+    → flat_map (λ k. phase_at (cons_option (option_or (own_node n k ks) (taken k)) [])) ks ≡ nodes_from n (length ks)
 own-nodes [] n taken e = refl
 own-nodes (Vertices ∷ []) n taken e = refl
 own-nodes (Edges ∷ []) n taken e = refl
@@ -69,95 +61,101 @@ own-nodes (Vertices ∷ Edges ∷ k ∷ ks) n taken e = cc
 own-nodes (Edges ∷ Vertices ∷ k ∷ ks) n taken e = cc
 own-nodes (Edges ∷ Edges ∷ k ∷ ks) n taken e = cc
 
-node_in-result : (p : Planned) (st : TypedStmt) (k : Kind) → node_in k (result_of p st) ≡ result_node p k st
-node_in-result p st Vertices = refl
-node_in-result p st Edges = refl
+-- the node of a result that was just added
+node_of-fresh : (p q : Planned) (s : ℕ) (st : TypedStmt) (k : Kind) → get_or q.results (s - 1) None ≡ Some (result_of p st) → node_of q (recipe_of k s) ≡ result_node p k st
+node_of-fresh p q s st Vertices at = ap (λ o. node_in Vertices (unwrap_or o no_nodes)) at
+node_of-fresh p q s st Edges at = ap (λ o. node_in Edges (unwrap_or o no_nodes)) at
 
 -- ---- in order
 
-order-from : (nodes n count : ℕ) (rest : List (List NodeId)) → AreInOrder nodes (n + count) rest → AreInOrder nodes n (nodes_from n count ++ rest)
-order-from nodes n zero rest order = subst (λ m. AreInOrder nodes m rest) (let same : n + 0 ≡ n = omega arith in same) order
-order-from nodes n (suc count) rest order =
-    inr (refl, order-from nodes (n + 1) count rest (subst (λ m. AreInOrder nodes m rest) (let same : n + suc count ≡ n + 1 + count = omega arith in same) order))
+no_gap : (w : World) (p : Planned) (n : ℕ) → n ≤ length p.lineage.nodes → AreFaultless w p n n
+no_gap w p n within = record { order = omega arith; within = within; none = λ k from below. absurd (omega (arith, from, below)) }
 
-order-earlier : (nodes n : ℕ) (phases : List (List NodeId)) → n ≡ nodes → AllByRecursion (λ ns. AllByRecursion (λ m. m.0 < n) ns) phases → AreInOrder nodes n phases
-order-earlier nodes n [] last below = last
-order-earlier nodes n (ns ∷ phases) last below = inl (below.0, order-earlier nodes n phases last below.1)
+order-from : (w : World) (p : Planned) (n count : ℕ) (rest : List (List NodeId)) → n + count ≤ length p.lineage.nodes → AreInOrder w p (n + count) rest → AreInOrder w p n (nodes_from n count ++ rest)
+order-from w p n zero rest within order = subst (λ m. AreInOrder w p m rest) (let same : n + 0 ≡ n = omega arith in same) order
+order-from w p n (suc count) rest within order =
+    (n, (no_gap w p n (omega (arith, within)), inr (refl, order-from w p (n + 1) count rest (omega (arith, within))
+    (subst (λ m. AreInOrder w p m rest) (let same : n + suc count ≡ n + 1 + count = omega arith in same) order))))
+
+order-earlier : (w : World) (p : Planned) (n : ℕ) (phases : List (List NodeId)) → n ≡ length p.lineage.nodes → AllByRecursion (λ ns. AllByRecursion (λ m. m.0 < n) ns) phases → AreInOrder w p n phases
+order-earlier w p n [] last below = subst (AreFaultless w p n) last (no_gap w p n (omega (arith, last)))
+order-earlier w p n (ns ∷ phases) last below = (n, (no_gap w p n (omega (arith, last)), inl (below.0, order-earlier w p n phases last below.1)))
 
 -- ---- what an action demands
 
-pub demanded-named : (P : ℕ → Type 0) (st : TypedStmt) → AllByRecursion P (named_numbers st) → AllByRecursion (λ r. P r.statement) (demanded_by st)
-demanded-named P (stmts.PrintVertices g) h = h
-demanded-named P (stmts.PrintEdges g) h = h
-demanded-named P (stmts.PrintTable t) h = h
-demanded-named P (stmts.CountVertices g) h = h
-demanded-named P (stmts.CountEdges g) h = h
-demanded-named P (stmts.CountTable t) h = h
+pub demanded-named : (P : ℕ → Type 0) (st : TypedStmt) → AllByRecursion P (named_numbers st) → AllByRecursion (λ r. (is_result r.kind ≡ true) × P r.statement) (demanded_by st)
+demanded-named P (stmts.PrintVertices g) h = ((refl, h.0), tt)
+demanded-named P (stmts.PrintEdges g) h = ((refl, h.0), tt)
+demanded-named P (stmts.PrintTable t) h = ((refl, h.0), tt)
+demanded-named P (stmts.CountVertices g) h = ((refl, h.0), tt)
+demanded-named P (stmts.CountEdges g) h = ((refl, h.0), tt)
+demanded-named P (stmts.CountTable t) h = ((refl, h.0), tt)
 demanded-named P _ h = tt
 
+-- what holds of all nodes holds of those of their phase
+phase-all : (P : NodeId → Type 0) (ns : List NodeId) → AllByRecursion P ns → AllByRecursion (λ ms. AllByRecursion P ms) (phase_at ns)
+phase-all P ns all = by (length ns == 0)
+  where
+    by : (b : Bool) → AllByRecursion (λ ms. AllByRecursion P ms) (if b then [] else ns ∷ [])
+    by true = tt
+    by false = (all, tt)
+
 module _ (e : PlannedWorld) (setting : IsSetting e.world e.planned) (s : ℕ) (may : MayForce e s) (fresh : was_added e.planned s ≡ false) where
-  abbrev script : List CheckedStmt
-  script = e.world.script
+  abbrev source : ScriptWithCut
+  source = source_of e.world
 
   abbrev p : Planned
   p = e.planned
 
   abbrev q : Planned
-  q = with_number e.world.script e.planned s
+  q = with_number (source_of e.world) e.planned s
 
   abbrev st : TypedStmt
   st = statement_of e.world.script s
 
-  pub fresh-front : IsFrontOf e.planned (with_number e.world.script e.planned s)
-  fresh-front = added-front script p s may.from_one (fresh-result p s fresh)
+  pub fresh-front : IsFrontOf e.planned (with_number (source_of e.world) e.planned s)
+  fresh-front = added-front source p s may.from_one (fresh-result p s fresh)
 
-  pub fresh-plan : IsPlan e.world.script (with_number e.world.script e.planned s)
-  fresh-plan = added-plan script p s (record { plan = setting.plan; from_one = may.from_one; within = may.within; named = may.named })
+  pub fresh-plan : IsPlan (source_of e.world) (with_number (source_of e.world) e.planned s)
+  fresh-plan = added-plan source p s (record { plan = setting.plan; from_one = may.from_one; within = may.within; named = may.named })
 
-  pub recipes-after : (with_number e.world.script e.planned s).recipes ≡ e.planned.recipes ++ own_recipes s (statement_of e.world.script s)
-  recipes-after = recipes-kept script p (own_recipes s st)
+  pub recipes-after : (with_number (source_of e.world) e.planned s).recipes ≡ e.planned.recipes ++ own_recipes e.planned s (statement_of e.world.script s)
+  recipes-after = recipes-kept source p (own_recipes p s st)
 
-  pub nodes-after : length (with_number e.world.script e.planned s).lineage.nodes ≡ length e.planned.lineage.nodes + length (own_kinds (statement_of e.world.script s))
+  pub nodes-after : length (with_number (source_of e.world) e.planned s).lineage.nodes ≡ length e.planned.lineage.nodes + length (own_kinds (statement_of e.world.script s))
   nodes-after =
-      let long : length q.recipes ≡ length p.recipes + length (own_recipes s st) = ap length recipes-after ∙ length-append p.recipes (own_recipes s st) in
-      let own : length (own_recipes s st) ≡ length (own_kinds st) = length-map (own_kinds st) (λ k. recipe_of k s) in
+      let long : length q.recipes ≡ length p.recipes + length (own_recipes p s st) = ap length recipes-after ∙ length-append p.recipes (own_recipes p s st) in
+      let own : length (own_recipes p s st) ≡ length (own_kinds st) = length-map (own_kinds st) (λ k. recipe_of k s) in
       omega (arith, fresh-plan.recipes, setting.plan.recipes, long, own)
 
   node-of_result : (k : Kind) → node_of q (recipe_of k s) ≡ option_or (own_node (length p.lineage.nodes) k (own_kinds st)) (inherited_node p k (inherits k st))
-  node-of_result k =
-      ap (λ o. node_in k (unwrap_or o no_nodes)) (result-here script p s may.from_one setting.plan may.within) ∙ node_in-result p st k
+  node-of_result k = node_of-fresh p q s st k (result-here source p s may.from_one setting.plan may.within)
 
-  pub own-phases : map (λ r. option_to_list (node_of (with_number e.world.script e.planned s) r)) (own_recipes s (statement_of e.world.script s))
+  pub own-phases-are : own_phases (with_number (source_of e.world) e.planned s) s (own_kinds (statement_of e.world.script s))
       ≡ nodes_from (length e.planned.lineage.nodes) (length (own_kinds (statement_of e.world.script s)))
-  own-phases =
-      map-map (λ r. option_to_list (node_of q r)) (λ k. recipe_of k s) (own_kinds st)
-      ∙ ap (λ f. map f (own_kinds st)) (λ i k. option_to_list (node-of_result k i))
+  own-phases-are =
+      ap (λ f. flat_map f (own_kinds st)) (λ i k. phase_at (cons_option (node-of_result k i) []))
       ∙ own-nodes (own_kinds st) (length p.lineage.nodes) (λ k. inherited_node p k (inherits k st)) (own-distinct st)
 
   -- the phases of its own nodes, and then what it demands
-  pub phases-are : phases_of e.world.script (with_number e.world.script e.planned s) s
+  pub phases-are : phases_of e.world.script (with_number (source_of e.world) e.planned s) s
       ≡ nodes_from (length e.planned.lineage.nodes) (length (own_kinds (statement_of e.world.script s)))
-      ++ map (λ r. option_to_list (node_of (with_number e.world.script e.planned s) r)) (demanded_by (statement_of e.world.script s))
-  phases-are =
-      map-append (λ r. option_to_list (node_of q r)) (own_recipes s st) (demanded_by st)
-      ∙ ap (λ xs. xs ++ map (λ r. option_to_list (node_of q r)) (demanded_by st)) own-phases
+      ++ phase_at (nodes_of (with_number (source_of e.world) e.planned s) (demanded_by (statement_of e.world.script s)))
+  phases-are = ap (λ nss. nss ++ phase_at (nodes_of q (demanded_by st))) own-phases-are
 
-  earlier-node : (r : Recipe) (o : Option NodeId) → IsNodeFor script p.recipes r o → AllByRecursion (λ m. m.0 < length p.lineage.nodes) (option_to_list o)
-  earlier-node r None stands = tt
-  earlier-node r (Some n) stands = (omega (arith, stands.inside, setting.plan.recipes), tt)
+  earlier-node : (r : Recipe) (o : Option NodeId) (ns : List NodeId) → IsNodeFor e.world.script p.recipes r o → AllByRecursion (λ m. m.0 < length p.lineage.nodes) ns
+      → AllByRecursion (λ m. m.0 < length p.lineage.nodes) (cons_option o ns)
+  earlier-node r None ns stands rest = rest
+  earlier-node r (Some n) ns stands rest = (omega (arith, stands.inside, setting.plan.recipes), rest)
 
-  earlier-demanded : (r : Recipe) → IsAdded p r.statement → AllByRecursion (λ m. m.0 < length p.lineage.nodes) (option_to_list (node_of q r))
-  earlier-demanded r added =
-      subst (λ o. AllByRecursion (λ m. m.0 < length p.lineage.nodes) (option_to_list o)) (sym (fresh-front.results r added))
-      (earlier-node r (node_of p r) (setting.plan.nodes r.statement added r.kind))
+  earlier-nodes : (rs : List Recipe) → AllByRecursion (λ r. (is_result r.kind ≡ true) × IsAdded p r.statement) rs → AllByRecursion (λ m. m.0 < length p.lineage.nodes) (nodes_of q rs)
+  earlier-nodes [] added = tt
+  earlier-nodes (r ∷ rs) added =
+      subst (λ o. AllByRecursion (λ m. m.0 < length p.lineage.nodes) (cons_option o (nodes_of q rs))) (sym (front-node_of p q fresh-front r added.0.0 added.0.1))
+      (earlier-node r (node_of p r) (nodes_of q rs) (setting.plan.nodes r added.0.0 added.0.1) (earlier-nodes rs added.1))
 
-  pub demanded-earlier : (rs : List Recipe) → AllByRecursion (λ r. IsAdded e.planned r.statement) rs
-      → AllByRecursion (λ ns. AllByRecursion (λ m. m.0 < length e.planned.lineage.nodes) ns) (map (λ r. option_to_list (node_of (with_number e.world.script e.planned s) r)) rs)
-  demanded-earlier [] added = tt
-  demanded-earlier (r ∷ rs) added = (earlier-demanded r added.0, demanded-earlier rs added.1)
-
-  pub demanded-added : AllByRecursion (λ r. IsAdded e.planned r.statement) (demanded_by (statement_of e.world.script s))
-  demanded-added = demanded-named (IsAdded p) st may.named
+  pub demanded-earlier : AllByRecursion (λ ns. AllByRecursion (λ m. m.0 < length e.planned.lineage.nodes) ns) (phase_at (nodes_of (with_number (source_of e.world) e.planned s) (demanded_by (statement_of e.world.script s))))
+  demanded-earlier = phase-all (λ m. m.0 < length p.lineage.nodes) (nodes_of q (demanded_by st)) (earlier-nodes (demanded_by st) (demanded-named (IsAdded p) st may.named))
 
   later-below : (m n : ℕ) (nss : List (List NodeId)) → m ≤ n → AllByRecursion (λ ns. AllByRecursion (λ x. x.0 < m) ns) nss → AllByRecursion (λ ns. AllByRecursion (λ x. x.0 < n) ns) nss
   later-below m n [] less below = tt
@@ -168,13 +166,12 @@ module _ (e : PlannedWorld) (setting : IsSetting e.world e.planned) (s : ℕ) (m
       by (x ∷ ns) below = (omega (arith, less, below.0), by ns below.1)
 
   -- the phases of a statement that was just added are next
-  pub phases-next : AreQuiet e → AreNext (record { world = e.world; planned = with_number e.world.script e.planned s }) (phases_of e.world.script (with_number e.world.script e.planned s) s)
+  pub phases-next : AreQuiet e → AreNext (record { world = e.world; planned = with_number (source_of e.world) e.planned s }) (phases_of e.world.script (with_number (source_of e.world) e.planned s) s)
   phases-next quiet = record {
     at = length p.lineage.nodes;
     quiet = quiet-kept e.world p q setting fresh-front quiet;
-    order = subst (AreInOrder (length q.lineage.nodes) (length p.lineage.nodes)) (sym phases-are)
-        (order-from (length q.lineage.nodes) (length p.lineage.nodes) (length (own_kinds st)) (map (λ r. option_to_list (node_of q r)) (demanded_by st))
-        (order-earlier (length q.lineage.nodes) (length p.lineage.nodes + length (own_kinds st)) (map (λ r. option_to_list (node_of q r)) (demanded_by st)) (sym nodes-after)
-        (later-below (length p.lineage.nodes) (length p.lineage.nodes + length (own_kinds st)) (map (λ r. option_to_list (node_of q r)) (demanded_by st)) (omega arith)
-        (demanded-earlier (demanded_by st) demanded-added))));
+    order = subst (AreInOrder e.world q (length p.lineage.nodes)) (sym phases-are)
+        (order-from e.world q (length p.lineage.nodes) (length (own_kinds st)) (phase_at (nodes_of q (demanded_by st))) (omega (arith, nodes-after))
+        (order-earlier e.world q (length p.lineage.nodes + length (own_kinds st)) (phase_at (nodes_of q (demanded_by st))) (sym nodes-after)
+        (later-below (length p.lineage.nodes) (length p.lineage.nodes + length (own_kinds st)) (phase_at (nodes_of q (demanded_by st))) (omega arith) demanded-earlier)));
   }

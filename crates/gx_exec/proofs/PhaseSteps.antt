@@ -1,8 +1,9 @@
 -- Phases that are gone through one after the other.
-use Rattle.std.proofs.Common.{◌≡◌, ℕ, ◌+◌, ◌<◌, List, ◌∷◌, None, drop, get_or, length, map, sym, ap, ◌∙◌, subst, refl, add-one, drop-cons}
+use Rattle.std.proofs.Common.{◌≡◌, ℕ, ◌+◌, ◌<◌, List, [], ◌∷◌, None, drop, get_or, length, map, sym, ap, ◌∙◌, subst, refl, add-one, drop-cons}
 use Rattle.gx_cluster.specs.States.{State}
 use Rattle.gx_lineage.specs.declared.node_id.NodeId.{NodeId}
 use Rattle.gx_plan.specs.PlanInvariant.{IsFrontOf}
+use Rattle.gx_exec_contents.specs.PhaseFaults.{AreQuietBelow}
 use Rattle.gx_exec_contents.specs.Worlds.{IsSetting}
 use Rattle.gx_exec_work.specs.Works.{PlannedWorld}
 use Rattle.gx_exec_work.specs.declared.block.Block.{Block}
@@ -13,7 +14,7 @@ use Rattle.gx_exec.specs.Phases.{AreNext, AreUnstopped, MayJudge}
 use Rattle.gx_exec.proofs.CourseFaults.{phases-planned}
 use Rattle.gx_exec.proofs.CourseRuns.{OnCourse, course-more, course-stops, front-same}
 use Rattle.gx_exec.proofs.ForcedStatements.{IsPhased}
-use Rattle.gx_exec.proofs.QuietPlans.{next-judged, next-more}
+use Rattle.gx_exec.proofs.QuietPlans.{next-judged, next-more, none-next}
 
 -- the next phase, and the others
 pub next-phase : {V : Type 0} (vs : List V) (items : V → List NodeId) (i : ℕ) (v : V) (ns : List NodeId) → i < length vs → v ≡ get_or vs i v → ns ≡ items v
@@ -29,8 +30,8 @@ module _ (e : PlannedWorld) (s : ℕ) (start c : State Block) (all left : List (
   on-course : OnCourse e.world (phases e.world s all e.planned) (phases e.world s (ns ∷ rest) e.planned) (point_of start) (point_of c)
   on-course = subst (λ nss. OnCourse e.world (phases e.world s all e.planned) (phases e.world s nss e.planned) (point_of start) (point_of c)) el so_far.course
 
-  pub phased-may : MayJudge e ns
-  phased-may = next-judged e ns rest (subst (AreNext e) el so_far.next)
+  pub phased-may : IsSetting e.world e.planned → MayJudge e ns
+  phased-may setting = next-judged e ns rest setting (subst (AreNext e) el so_far.next)
 
   pub phased-stops : (stop : RunStop) (d : State Block) → StopsAs stop e.world (phase e.world s ns e.planned) e.planned (point_of c) (point_of d)
       → StopsAs stop e.world (phases e.world s all e.planned) e.planned (point_of start) (point_of d)
@@ -45,3 +46,8 @@ module _ (e : PlannedWorld) (s : ℕ) (start c : State Block) (all left : List (
     next = next-more e ns rest setting (subst (AreNext e) el so_far.next) unstopped;
     course = course-more e.world (phases e.world s all e.planned) (phase e.world s ns e.planned) (phases e.world s rest) e.planned (point_of start) (point_of c) (point_of d) later on-course ends;
   }
+
+-- no phase is left
+pub phased-quiet : (e : PlannedWorld) (s : ℕ) (start c : State Block) (all left : List (List NodeId)) → left ≡ [] → IsSetting e.world e.planned → IsPhased e s start c all left
+    → AreQuietBelow e.world e.planned (length e.planned.lineage.nodes)
+phased-quiet e s start c all left el setting so_far = none-next e setting (subst (AreNext e) el so_far.next)

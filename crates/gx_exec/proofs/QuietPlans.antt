@@ -1,5 +1,5 @@
 -- Plans of which no block is stopped.
-use Rattle.std.proofs.Common.{◌≡◌, ℕ, zero, suc, ◌+◌, ◌<◌, ◌≤◌, List, [], ◌∷◌, inl, inr, Option, Some, None, length, refl, sym, ap, ◌∙◌, subst, arith}
+use Rattle.std.proofs.Common.{◌≡◌, ◌⊎◌, ℕ, zero, suc, ◌+◌, ◌-◌, ◌<◌, ◌≤◌, List, [], ◌∷◌, inl, inr, Option, Some, None, length, refl, sym, ap, ◌∙◌, subst, arith}
 use Rattle.std.specs.List.{AllByRecursion, range_with_len}
 use Rattle.gx_lineage.specs.Lineage.{IsBlock}
 use Rattle.gx_lineage.specs.declared.block_id.BlockId.{BlockId}
@@ -8,27 +8,27 @@ use Rattle.gx_plan.specs.PlanInvariant.{IsFrontOf}
 use Rattle.gx_plan.specs.Plans.{Planned, recipe_at}
 use Rattle.gx_plan.specs.declared.kind.Kind.{Kind}
 use Rattle.gx_plan.specs.declared.kind.Kind.TheVariants as kind
-use Rattle.gx_model.specs.Graphs.{Graph}
+use Rattle.gx_plan.specs.declared.recipe.Recipe.{Recipe}
 use Rattle.gx_exec_contents.specs.BlockContents.{content_of, recipe_of_block, stop_of}
 use Rattle.gx_exec_contents.specs.PartContents.{BlockStop, held_kind, stop_in, stop_or}
-use Rattle.gx_exec_contents.specs.PhaseFaults.{AreQuietBelow, fault_in, least_over}
-use Rattle.gx_exec_contents.specs.Worlds.{IsSetting, World, value_in}
+use Rattle.gx_exec_contents.specs.PhaseFaults.{AreQuietBelow, fault_in, least_over, least_stop}
+use Rattle.gx_exec_contents.specs.Worlds.{IsSetting, World}
 use Rattle.gx_exec_contents.proofs.GrownPlans.{contents-kept}
 use Rattle.gx_exec_contents.proofs.StopsOfNodes.{quiet-nodes_go_on, stops-are_faults}
 use Rattle.gx_exec_work.specs.Works.{PlannedWorld}
-use Rattle.gx_exec.specs.Phases.{AreInOrder, AreNext, AreUnstopped, MayJudge}
+use Rattle.gx_exec.specs.Phases.{AreFaultless, AreInOrder, AreNext, AreUnstopped, MayJudge}
 
 -- ---- the stop of a block is seen in its content
 
-stop_in-kind : (k : Kind) (stop : Option BlockStop) (parts i : ℕ) (g : Graph ℕ) → stop_in (stop_or stop (held_kind k parts i g)) ≡ stop
-stop_in-kind kind.Vertices None parts i g = refl
-stop_in-kind kind.Edges None parts i g = refl
-stop_in-kind k (Some s) parts i g = refl
+stop_in-kind : (w : World) (k : Kind) (r : Recipe) (i : ℕ) (stop : Option BlockStop) → stop_in (stop_or stop (held_kind w k r i)) ≡ stop
+stop_in-kind w kind.Vertices r i None = refl
+stop_in-kind w kind.Edges r i None = refl
+stop_in-kind w k r i (Some s) = refl
 
 pub stop_in-content : (w : World) (p : Planned) (b : BlockId) → stop_in (content_of w p b) ≡ stop_of w p b
 stop_in-content w p b =
     let r = recipe_of_block p b in
-    stop_in-kind r.kind (stop_of w p b) w.parts b.part (value_in w r.statement)
+    stop_in-kind w r.kind r b.part (stop_of w p b)
 
 -- blocks that are not stopped are not stopped in a larger plan
 pub quiet-kept : (w : World) (p q : Planned) → IsSetting w p → IsFrontOf p q → AreQuietBelow w p (length p.lineage.nodes) → AreQuietBelow w q (length p.lineage.nodes)
@@ -53,10 +53,23 @@ quiet-fault w p setting quiet n within =
 
 -- ---- phases in order
 
-order-within : (nodes n : ℕ) (phases : List (List NodeId)) → AreInOrder nodes n phases → n ≤ nodes
-order-within nodes n [] order = omega (arith, order)
-order-within nodes n (ns ∷ phases) (inl order) = order-within nodes n phases order.1
-order-within nodes n (ns ∷ phases) (inr order) = let more : n + 1 ≤ nodes = order-within nodes (n + 1) phases order.1 in omega (arith, more)
+order-within : (w : World) (p : Planned) (n : ℕ) (phases : List (List NodeId)) → AreInOrder w p n phases → n ≤ length p.lineage.nodes
+order-within w p n [] order = omega (arith, order.order, order.within)
+order-within w p n (ns ∷ phases) order = omega (arith, order.1.0.order, order.1.0.within)
+
+-- nodes that have no fault of their own are not stopped, if none before them is
+module _ (w : World) (p : Planned) (n m : ℕ) (setting : IsSetting w p) (gap : AreFaultless w p n m) (quiet : AreQuietBelow w p n) where
+  gap-quiet : (count : ℕ) → n + count ≤ m → AreQuietBelow w p (n + count)
+  gap-quiet zero within = subst (AreQuietBelow w p) (let same : n ≡ n + 0 = omega arith in same) quiet
+  gap-quiet (suc count) within =
+      let here : n + count < length p.lineage.nodes = omega (arith, within, gap.within) in
+      let below : AreQuietBelow w p (n + count) = gap-quiet count (omega (arith, within)) in
+      let none : least_stop w p (record { 0 = n + count }) ≡ None =
+      stops-are_faults w p setting (record { 0 = n + count }) here below ∙ gap.none (n + count) (omega arith) (omega (arith, within)) in
+      subst (AreQuietBelow w p) (let same : n + count + 1 ≡ n + suc count = omega arith in same) (quiet-nodes_go_on w p setting (record { 0 = n + count }) below none)
+
+  quiet-gap : AreQuietBelow w p m
+  quiet-gap = subst (AreQuietBelow w p) (let same : n + (m - n) ≡ m = omega (arith, gap.order) in same) (gap-quiet (m - n) (omega (arith, gap.order)))
 
 each-judged : (e : PlannedWorld) (at : ℕ) (ns : List NodeId) → at ≤ length e.planned.lineage.nodes → AreQuietBelow e.world e.planned at → AllByRecursion (λ m. m.0 < at) ns → MayJudge e ns
 each-judged e at [] within quiet below = tt
@@ -65,25 +78,37 @@ each-judged e at (n ∷ ns) within quiet below = (
   each-judged e at ns within quiet below.1,
 )
 
-pub next-judged : (e : PlannedWorld) (ns : List NodeId) (rest : List (List NodeId)) → AreNext e (ns ∷ rest) → MayJudge e ns
-next-judged e ns rest next = by next.order
+pub next-judged : (e : PlannedWorld) (ns : List NodeId) (rest : List (List NodeId)) → IsSetting e.world e.planned → AreNext e (ns ∷ rest) → MayJudge e ns
+next-judged e ns rest setting next = by next.order.1.1
   where
-    by : AreInOrder (length e.planned.lineage.nodes) next.at (ns ∷ rest) → MayJudge e ns
-    by (inl order) = each-judged e next.at ns (order-within (length e.planned.lineage.nodes) next.at rest order.1) next.quiet order.0
+    m : ℕ
+    m = next.order.0
+
+    quiet : AreQuietBelow e.world e.planned m
+    quiet = quiet-gap e.world e.planned next.at m setting next.order.1.0 next.quiet
+
+    by : (AllByRecursion (λ k. k.0 < m) ns × AreInOrder e.world e.planned m rest) ⊎ ((ns ≡ record { 0 = m } ∷ []) × AreInOrder e.world e.planned (m + 1) rest) → MayJudge e ns
+    by (inl order) = each-judged e m ns next.order.1.0.within quiet order.0
     by (inr order) =
-        let more : next.at + 1 ≤ length e.planned.lineage.nodes = order-within (length e.planned.lineage.nodes) (next.at + 1) rest order.1 in
-        subst (MayJudge e) (sym order.0) ((omega (arith, more), next.quiet), tt)
+        let more : m + 1 ≤ length e.planned.lineage.nodes = order-within e.world e.planned (m + 1) rest order.1 in
+        subst (MayJudge e) (sym order.0) ((omega (arith, more), quiet), tt)
 
 pub next-more : (e : PlannedWorld) (ns : List NodeId) (rest : List (List NodeId)) → IsSetting e.world e.planned → AreNext e (ns ∷ rest) → AreUnstopped e ns → AreNext e rest
-next-more e ns rest setting next unstopped = by next.order
+next-more e ns rest setting next unstopped = by next.order.1.1
   where
-    by : AreInOrder (length e.planned.lineage.nodes) next.at (ns ∷ rest) → AreNext e rest
-    by (inl order) = record { at = next.at; quiet = next.quiet; order = order.1 }
+    m : ℕ
+    m = next.order.0
+
+    quiet : AreQuietBelow e.world e.planned m
+    quiet = quiet-gap e.world e.planned next.at m setting next.order.1.0 next.quiet
+
+    by : (AllByRecursion (λ k. k.0 < m) ns × AreInOrder e.world e.planned m rest) ⊎ ((ns ≡ record { 0 = m } ∷ []) × AreInOrder e.world e.planned (m + 1) rest) → AreNext e rest
+    by (inl order) = record { at = m; quiet = quiet; order = order.1 }
     by (inr order) = record {
-      at = next.at + 1;
-      quiet = quiet-nodes_go_on e.world e.planned setting (record { 0 = next.at }) next.quiet (subst (AreUnstopped e) order.0 unstopped).0;
+      at = m + 1;
+      quiet = quiet-nodes_go_on e.world e.planned setting (record { 0 = m }) quiet (subst (AreUnstopped e) order.0 unstopped).0;
       order = order.1;
     }
 
-pub none-next : (e : PlannedWorld) → AreNext e [] → AreQuietBelow e.world e.planned (length e.planned.lineage.nodes)
-none-next e next = subst (AreQuietBelow e.world e.planned) next.order next.quiet
+pub none-next : (e : PlannedWorld) → IsSetting e.world e.planned → AreNext e [] → AreQuietBelow e.world e.planned (length e.planned.lineage.nodes)
+none-next e setting next = quiet-gap e.world e.planned next.at (length e.planned.lineage.nodes) setting next.order next.quiet

@@ -47,6 +47,6 @@ action-read e c a bs setting steady contents may is held same =
     answer-from_blocks e c a bs setting steady.quiet contents may.from_one may.within (action-of e a may is) may.named held same
 
 pub action-few : (e : PlannedWorld) (a : ℕ) (bs : List BlockId) → MayForce e a → IsSome (action_answer (loaded_in e.world) a) → e.world.parts ≤ 64
-    → bs ≡ targets_of e.world (flat_map (λ ns. ns) (phases_of e.world.script e.planned a)) → length bs ≤ 64
+    → bs ≡ targets_of e.world (flat_map (λ ns. ns) (phases_of e.world.script e.planned a)) → length bs ≤ 128
 action-few e a bs may is few same =
     blocks-of_action_few e.world.script e.planned e.world.parts a bs (action-of e a may is) few same

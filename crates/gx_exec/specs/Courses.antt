@@ -4,7 +4,7 @@ use Rattle.std.specs.List.{range_with_len}
 use Rattle.gx_cluster_state.specs.Runs.{Command, Demand, Passes, Point, Run}
 use Rattle.gx_exec_contents.specs.PartContents.{first_given}
 use Rattle.gx_exec_contents.specs.PhaseFaults.{fault_in, fault_of_stop}
-use Rattle.gx_exec_contents.specs.Worlds.{World}
+use Rattle.gx_exec_contents.specs.Worlds.{World, source_of}
 use Rattle.gx_exec_work.specs.Works.{net_in}
 use Rattle.gx_lineage.specs.Lineage.{blocks_at}
 use Rattle.gx_lineage.specs.declared.block_id.BlockId.{BlockId}
@@ -58,7 +58,9 @@ was_added p s = is_some (get_or p.results (s - 1) None)
 
 -- statement s is added, and its phases are gone through; nothing is done if it was added before
 abbrev pub forced : World → Planned → ℕ → Course
-forced w p s = if was_added p s then still p else phases w s (phases_of w.script (with_number w.script p s) s) (with_number w.script p s)
+forced w p s =
+    if was_added p s then still p
+    else phases w s (phases_of w.script (with_number (source_of w) p s) s) (with_number (source_of w) p s)
 
 -- ---- several statements
 

@@ -5,7 +5,7 @@ use Rattle.std.specs.Option.{option_and_then}
 use Rattle.gx_cluster.specs.States.{HoldsContents, State, shape}
 use Rattle.gx_cluster_state.specs.Runs.{Point}
 use Rattle.gx_exec_contents.specs.PhaseFaults.{AreQuietBelow}
-use Rattle.gx_exec_contents.specs.Worlds.{loaded_in}
+use Rattle.gx_exec_contents.specs.Worlds.{loaded_in, source_of}
 use Rattle.gx_exec_work.specs.Works.{IsContentOf, PlannedWorld}
 use Rattle.gx_exec_work.specs.declared.block.Block.{Block}
 use Rattle.gx_model.specs.ActionAnswers.{Answer, answer_of_stmt}
@@ -52,4 +52,4 @@ pub record MayForce (e : PlannedWorld) (s : ℕ) : Type 0 where
 
 -- the engine with statement s in its plan
 abbrev pub with_stmt : PlannedWorld → ℕ → PlannedWorld
-with_stmt e s = record { world = e.world; planned = with_number e.world.script e.planned s }
+with_stmt e s = record { world = e.world; planned = with_number (source_of e.world) e.planned s }

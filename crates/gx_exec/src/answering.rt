@@ -84,7 +84,7 @@ impl Engine {
         ensures held { IfOk result (λ bs. all_held (shape cluster.new) bs.items ≡ true) }
         ensures blocks { IfOk result (λ bs. bs.items ≡ targets_of self.new.world
             (flat_map (λ ns. ns) (phases_of self.new.world.script self.new.planned a))) }
-        ensures few { IfOk result (λ bs. length bs.items ≤ 64) }
+        ensures few { IfOk result (λ bs. length bs.items ≤ 128) }
         ensures reads { IfOk result (λ bs. action_answer (loaded_in self.new.world) a
             ≡ Some (answer_of_blocks self.new.world.script a
             (held_contents cluster.new.held bs.items))) }
@@ -114,7 +114,7 @@ impl Engine {
         requires from_one { 1 ≤ a }
         requires within { a ≤ length self.now.world.script }
         requires is_action { IsSome (action_answer (loaded_in self.now.world) a) }
-        requires few { length blocks.now ≤ 64 }
+        requires few { length blocks.now ≤ 128 }
         ensures { IfOk result (λ answer. answer_record answer
             ≡ answer_of_blocks self.now.world.script a
             (held_contents cluster.now.held blocks.now)) }

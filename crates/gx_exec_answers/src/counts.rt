@@ -18,7 +18,7 @@ use std::alloc::Global;
 ///
 /// `NoMemory` if memory for the answer runs out.
 pub fn vertex_count_answer(alloc: Global, parts: &[&VPart]) -> Result<Answer, NoMemory>
-    requires { length parts.now ≤ 64 }
+    requires { length parts.now ≤ 128 }
     ensures { IfOk result (λ a.
         answer_record a ≡ answer_with_count (length (vertices_in_parts parts.now))) }
 {
@@ -32,7 +32,7 @@ pub fn vertex_count_answer(alloc: Global, parts: &[&VPart]) -> Result<Answer, No
 ///
 /// `NoMemory` if memory for the answer runs out.
 pub fn edge_count_answer(alloc: Global, parts: &[&EPart]) -> Result<Answer, NoMemory>
-    requires { length parts.now ≤ 64 }
+    requires { length parts.now ≤ 128 }
     ensures { IfOk result (λ a.
         answer_record a ≡ answer_with_count (length (edges_in_parts parts.now))) }
 {
@@ -53,7 +53,7 @@ fn count_answer(alloc: Global, n: u64) -> Result<Answer, NoMemory>
 }
 
 fn vertex_count(parts: &[&VPart]) -> u64
-    requires { length parts.now ≤ 64 }
+    requires { length parts.now ≤ 128 }
     ensures exact { result ≡ length (vertices_in_parts parts.now) }
     ensures fits_i64 { result < 2 ^ 63 }
 {
@@ -74,7 +74,7 @@ fn row_count(part: &VPart) -> u32
 }
 
 fn edge_count(parts: &[&EPart]) -> u64
-    requires { length parts.now ≤ 64 }
+    requires { length parts.now ≤ 128 }
     ensures exact { result ≡ length (edges_in_parts parts.now) }
     ensures fits_i64 { result < 2 ^ 63 }
 {

@@ -13,12 +13,14 @@ use Rattle.gx_expr.specs.declared.expr.Expr.{Expr}
 use Rattle.gx_gops.specs.Tables.{is_in_part}
 use Rattle.gx_index.specs.Ids.{IsAscending, id_cmp, id_cmp-total}
 use Rattle.gx_model.specs.Graphs.{Vertex, first_row_of}
-use Rattle.gx_model.specs.StmtFaults.{KeyFault, fault_on_vertex, faults_on_vertices, key_fault_if, least_fault}
+use Rattle.gx_model.specs.StmtFaults.{KeyFault, fault_of_stmt, fault_on_vertex, faults_on_vertices, key_fault_if, least_fault}
 use Rattle.gx_model.specs.Values.{join_row_result, vertex_row_result, vertex_test_result, vertices_in_both}
 use Rattle.gx_model.proofs.LeastFaults.{least_fault-first}
+use Rattle.gx_plan.specs.Recipes.{recipe_of}
 use Rattle.gx_plan.specs.StmtNodes.{statement_of}
 use Rattle.gx_plan.specs.declared.kind.Kind.{Kind}
 use Rattle.gx_plan.specs.declared.kind.Kind.TheVariants as kind
+use Rattle.gx_plan.specs.declared.recipe.Recipe.{Recipe}
 use Rattle.gx_rows.specs.Order.{edge_cmp-total}
 use Rattle.gx_rows.specs.declared.cause.Cause.{Cause}
 use Rattle.gx_rows.specs.declared.row_key.RowKey.{RowKey}
@@ -26,10 +28,9 @@ use Rattle.gx_rows.specs.declared.row_key.RowKey.TheVariants as row_key
 use Rattle.gx_rows.specs.declared.vid.Vid.{Vid}
 use Rattle.gx_types_stmts.specs.declared.typed_stmt.TypedStmt.{TypedStmt}
 use Rattle.gx_types_stmts.specs.declared.typed_stmt.TypedStmt.TheVariants as stmts
-use Rattle.gx_exec_contents.specs.BlockContents.{value_in_part}
-use Rattle.gx_exec_contents.specs.PartContents.{BlockStop, fault_kind, part_of_vertices, stop_on_vertex, stop_over_vertices}
-use Rattle.gx_exec_contents.specs.PhaseFaults.{FaultsAreOfModel, LeastAreFaults, OwnFaultsAreOfModel, fault_of_stop, key_cmp, least_over, lesser_of}
-use Rattle.gx_exec_contents.specs.Worlds.{World, value_in}
+use Rattle.gx_exec_contents.specs.PartContents.{BlockStop, fault_kind, part_of_value, part_of_vertices, stop_on_vertex, stop_over_vertices}
+use Rattle.gx_exec_contents.specs.PhaseFaults.{LeastAreFaults, OwnFaultsAreOfModel, fault_of_stop, key_cmp, least_over, lesser_of}
+use Rattle.gx_exec_contents.specs.Worlds.{World, placed_values, value_in}
 use Rattle.gx_exec_contents.proofs.MadeTables.{both-in_part, join_faults-in_part}
 use Rattle.gx_exec_contents.proofs.StatementValues.{value-placed}
 use Rattle.gx_exec_contents.proofs.TableParts.{IsAscending-part, IsAscending-passing, below-passing}
@@ -150,15 +151,15 @@ module _ {A : Type 0} (result : Vertex → Result A (Cause × ℕ)) where
 
 -- ---- each statement
 
-least-kind : (w : World) → 0 < w.parts → (k : Kind) (st : TypedStmt)
-    → least_over (λ j. fault_kind k (value_in_part w j) st) (range_with_len 0 w.parts) ≡ fault_kind k (value_in w) st
-least-kind w some kind.Vertices (stmts.MapVertices g sets) =
+least-kind : (w : World) → 0 < w.parts → (r : Recipe) (k : Kind) (st : TypedStmt)
+    → least_over (λ j. fault_kind w k r (part_of_value k w.parts j) st) (range_with_len 0 w.parts) ≡ fault_kind w k r (λ g. g) st
+least-kind w some r kind.Vertices (stmts.MapVertices g sets) =
     least-of_parts (vertex_row_result sets) w.parts some (value_in w g).vertices (value-placed w some g).ascending
-least-kind w some kind.Vertices (stmts.Filter t condition) =
+least-kind w some r kind.Vertices (stmts.Filter t condition) =
     least-of_parts (vertex_test_result condition) w.parts some (value_in w t).vertices (value-placed w some t).ascending
-least-kind w some kind.Vertices (stmts.MapValues t sets) =
+least-kind w some r kind.Vertices (stmts.MapValues t sets) =
     least-of_parts (vertex_row_result sets) w.parts some (value_in w t).vertices (value-placed w some t).ascending
-least-kind w some kind.Vertices (stmts.InnerJoin t u sets) =
+least-kind w some r kind.Vertices (stmts.InnerJoin t u sets) =
     let xs : List Vertex = (value_in w t).vertices in
     let ys : List Vertex = (value_in w u).vertices in
     ap (λ f. least_over f (range_with_len 0 w.parts)) (λ i j. in_part w.parts sets xs ys j i)
@@ -170,24 +171,25 @@ least-kind w some kind.Vertices (stmts.InnerJoin t u sets) =
     in_part parts sets xs ys j =
         ap (stop_over_vertices (join_row_result sets (part_of_vertices parts j ys) [])) (both-in_part parts j ys xs)
         ∙ join_faults-in_part parts j ys sets [] (vertices_in_both xs ys)
-least-kind w some kind.Vertices (stmts.LeftJoin t u default sets) =
+least-kind w some r kind.Vertices (stmts.LeftJoin t u default sets) =
     let xs : List Vertex = (value_in w t).vertices in
     let ys : List Vertex = (value_in w u).vertices in
     ap (λ f. least_over f (range_with_len 0 w.parts)) (λ i j. join_faults-in_part w.parts j ys sets default xs i)
     ∙ least-of_parts (join_row_result sets ys default) w.parts some xs (value-placed w some t).ascending
-least-kind w some kind.Vertices _ = least-none (range_with_len 0 w.parts)
-least-kind w some kind.Edges _ = least-none (range_with_len 0 w.parts)
+least-kind w some r kind.Vertices _ = least-none (range_with_len 0 w.parts)
+least-kind w some r kind.Edges _ = least-none (range_with_len 0 w.parts)
 
 -- the least fault of the parts of a node is the fault of its statement
 pub least-are_faults : LeastAreFaults
-least-are_faults w world r = least-kind w world.some_parts r.kind (statement_of w.script r.statement)
+least-are_faults w world r = least-kind w world.some_parts r r.kind (statement_of w.script r.statement)
 
 fault-again : (s : ℕ) (f : Option (KeyFault Vid)) → option_map (fault_on_vertex s) f ≡ option_map (fault_of_stop s) (option_map stop_on_vertex f)
 fault-again s None = refl
 fault-again s (Some f) = refl
 
--- which is that of the model
-pub faults-are_of_model : FaultsAreOfModel
+-- the fault of a node of vertices is that of the model
+faults-are_of_model : (w : World) (s : ℕ) (st : TypedStmt)
+    → fault_of_stmt (placed_values w) s st ≡ option_map (fault_of_stop s) (fault_kind w kind.Vertices (recipe_of kind.Vertices s) (λ g. g) st)
 faults-are_of_model w s (stmts.MapVertices g sets) = fault-again s (least_fault id_cmp (faults_on_vertices (vertex_row_result sets) (value_in w g).vertices))
 faults-are_of_model w s (stmts.Filter t condition) = fault-again s (least_fault id_cmp (faults_on_vertices (vertex_test_result condition) (value_in w t).vertices))
 faults-are_of_model w s (stmts.MapValues t sets) = fault-again s (least_fault id_cmp (faults_on_vertices (vertex_row_result sets) (value_in w t).vertices))
@@ -204,13 +206,13 @@ given-alone (Some x) = refl
 -- the first fault of a statement's own nodes is that of the model
 pub own-faults_are_of_model : OwnFaultsAreOfModel
 own-faults_are_of_model w s (stmts.MapVertices g sets) =
-    given-alone (option_map (fault_of_stop s) (fault_kind kind.Vertices (value_in w) (stmts.MapVertices g sets))) ∙ sym (faults-are_of_model w s (stmts.MapVertices g sets))
+    given-alone (option_map (fault_of_stop s) (fault_kind w kind.Vertices (recipe_of kind.Vertices s) (λ g. g) (stmts.MapVertices g sets))) ∙ sym (faults-are_of_model w s (stmts.MapVertices g sets))
 own-faults_are_of_model w s (stmts.Filter t condition) =
-    given-alone (option_map (fault_of_stop s) (fault_kind kind.Vertices (value_in w) (stmts.Filter t condition))) ∙ sym (faults-are_of_model w s (stmts.Filter t condition))
+    given-alone (option_map (fault_of_stop s) (fault_kind w kind.Vertices (recipe_of kind.Vertices s) (λ g. g) (stmts.Filter t condition))) ∙ sym (faults-are_of_model w s (stmts.Filter t condition))
 own-faults_are_of_model w s (stmts.MapValues t sets) =
-    given-alone (option_map (fault_of_stop s) (fault_kind kind.Vertices (value_in w) (stmts.MapValues t sets))) ∙ sym (faults-are_of_model w s (stmts.MapValues t sets))
+    given-alone (option_map (fault_of_stop s) (fault_kind w kind.Vertices (recipe_of kind.Vertices s) (λ g. g) (stmts.MapValues t sets))) ∙ sym (faults-are_of_model w s (stmts.MapValues t sets))
 own-faults_are_of_model w s (stmts.InnerJoin t u sets) =
-    given-alone (option_map (fault_of_stop s) (fault_kind kind.Vertices (value_in w) (stmts.InnerJoin t u sets))) ∙ sym (faults-are_of_model w s (stmts.InnerJoin t u sets))
+    given-alone (option_map (fault_of_stop s) (fault_kind w kind.Vertices (recipe_of kind.Vertices s) (λ g. g) (stmts.InnerJoin t u sets))) ∙ sym (faults-are_of_model w s (stmts.InnerJoin t u sets))
 own-faults_are_of_model w s (stmts.LeftJoin t u default sets) =
-    given-alone (option_map (fault_of_stop s) (fault_kind kind.Vertices (value_in w) (stmts.LeftJoin t u default sets))) ∙ sym (faults-are_of_model w s (stmts.LeftJoin t u default sets))
+    given-alone (option_map (fault_of_stop s) (fault_kind w kind.Vertices (recipe_of kind.Vertices s) (λ g. g) (stmts.LeftJoin t u default sets))) ∙ sym (faults-are_of_model w s (stmts.LeftJoin t u default sets))
 own-faults_are_of_model w s _ = refl

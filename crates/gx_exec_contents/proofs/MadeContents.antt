@@ -7,61 +7,58 @@ use Rattle.gx_lineage.specs.Lineage.{IsBlock, block_inputs, blocks_at, blocks_of
 use Rattle.gx_lineage.specs.declared.block_id.BlockId.{BlockId}
 use Rattle.gx_lineage.specs.declared.input.Input.{Input}
 use Rattle.gx_lineage.specs.declared.node_id.NodeId.{NodeId}
-use Rattle.gx_plan.specs.PlanInvariant.{AreInputsFor, Fits, Owns, Serves, Stands, is_own}
+use Rattle.gx_plan.specs.PlanInvariant.{AreInputsFor, Fits, IsUnserved, Serves, Stands, is_own}
 use Rattle.gx_plan.specs.PlanInvariant.AreInputsFor.{end, from, skipped}
-use Rattle.gx_plan.specs.PlanLaws.{IsOwned}
+use Rattle.gx_plan.specs.PlanLaws.{IsOwned, ReadsOwned}
 use Rattle.gx_plan.specs.Plans.{Planned, recipe_at}
-use Rattle.gx_plan.specs.Recipes.{recipe_of}
+use Rattle.gx_plan.specs.Recipes.{graph_of, is_result}
 use Rattle.gx_plan.specs.StmtNodes.{feeds, statement_of}
 use Rattle.gx_plan.proofs.SortedScripts.{sorted-owned}
 use Rattle.gx_plan.specs.declared.feed.Feed.{Feed}
 use Rattle.gx_plan.specs.declared.kind.Kind.{Kind}
 use Rattle.gx_plan.specs.declared.kind.Kind.TheVariants as kind
 use Rattle.gx_plan.specs.declared.recipe.Recipe.{Recipe}
+use Rattle.gx_types_stmts.specs.declared.checked_stmt.CheckedStmt.{CheckedStmt}
 use Rattle.gx_types_stmts.specs.declared.typed_stmt.TypedStmt.{TypedStmt}
 use Rattle.gx_types_stmts.specs.declared.typed_stmt.TypedStmt.TheVariants as stmts
 use Rattle.gx_exec_contents.specs.BlockContents.{content_of, fault_by, held_by, recipe_of_block, stop_of}
 use Rattle.gx_exec_contents.specs.BlockLaws.{ContentsAreMade}
 use Rattle.gx_exec_contents.specs.MadeBlocks.{made_by, made_kind}
-use Rattle.gx_exec_contents.specs.PartContents.{BlockStop, Content, first_given, held_kind, stop_in, stop_or}
-use Rattle.gx_exec_contents.specs.Worlds.{IsSetting, IsWorld, World, value_in}
+use Rattle.gx_exec_contents.specs.PartContents.{BlockStop, Content, first_given, held_kind, part_of_result, stop_in, stop_or}
+use Rattle.gx_exec_contents.specs.Worlds.{IsSetting, IsWorld, World, source_of, value_at}
 use Rattle.gx_exec_contents.proofs.MadeStatements.{fed, made-kind}
 use Rattle.gx_exec_contents.proofs.StatementValues.{IsStatement, is_statement, owned-value, value_in-stmt}
 use Rattle.gx_exec_contents.proofs.StoppedBlocks.{stop_of-is}
 
 -- ---- the inputs of a node hold what its recipe reads
 
-serves-value : (w : World) → IsWorld w → (i : ℕ) (k : Kind) (r made : Recipe) → made.kind ≡ r.kind → r.kind ≡ k → Serves w.script r.kind r made → held_by w made i ≡ held_kind r.kind w.parts i (value_in w r.statement)
-serves-value w world i kind.Vertices r made same is serves =
-    ap (λ x. held_kind x w.parts i (value_in w made.statement)) (same ∙ is)
-    ∙ sym (owned-value w world i kind.Vertices r.statement made.statement (subst (λ x. Serves w.script x r made) is serves))
-    ∙ ap (λ x. held_kind x w.parts i (value_in w r.statement)) (sym is)
-serves-value w world i kind.Edges r made same is serves =
-    ap (λ x. held_kind x w.parts i (value_in w made.statement)) (same ∙ is)
-    ∙ sym (owned-value w world i kind.Edges r.statement made.statement (subst (λ x. Serves w.script x r made) is serves))
-    ∙ ap (λ x. held_kind x w.parts i (value_in w r.statement)) (sym is)
+serves-held : (w : World) → IsWorld w → (i : ℕ) (k : Kind) (r made : Recipe) → Serves w.script k r made → held_kind w k made i ≡ held_kind w k r i
+serves-held w world i kind.Vertices r made serves = sym (owned-value w world i kind.Vertices r.statement made.statement serves)
+serves-held w world i kind.Edges r made serves = sym (owned-value w world i kind.Edges r.statement made.statement serves)
 
-owner-serves : (w : World) (k : Kind) (r : Recipe) (owner : ℕ) → r.kind ≡ k → Owns w.script r.kind r.statement owner → Serves w.script r.kind r (recipe_of r.kind owner)
-owner-serves w kind.Vertices r owner is owns =
-    subst (λ x. Serves w.script x r (recipe_of r.kind owner)) (sym is) (subst (λ x. Owns w.script x r.statement owner) is owns)
-owner-serves w kind.Edges r owner is owns =
-    subst (λ x. Serves w.script x r (recipe_of r.kind owner)) (sym is) (subst (λ x. Owns w.script x r.statement owner) is owns)
+serves-value : (w : World) → IsWorld w → (i : ℕ) (r made : Recipe) → made.kind ≡ r.kind → Serves w.script r.kind r made → held_by w made i ≡ held_kind w r.kind r i
+serves-value w world i r made same serves = ap (λ x. held_kind w x made i) same ∙ serves-held w world i r.kind r made serves
+
+-- what is read of a result is served
+unserved-owned : (script : List CheckedStmt) (k : Kind) (r : Recipe) → IsUnserved script k r → (is_result k ≡ true → IsOwned script k r.statement) → ⊥
+unserved-owned script kind.Vertices r none owned = none (owned refl).0 (owned refl).1
+unserved-owned script kind.Edges r none owned = none (owned refl).0 (owned refl).1
 
 module _ (w : World) (world : IsWorld w) (p : Planned) (i : ℕ) where
   abbrev held_at : BlockId → Content
   held_at b = held_by w (recipe_of_block p b) b.part
 
-  held-blocks : (r : Recipe) (n : NodeId) → Stands w.script p.recipes r n → (js : List ℕ) → map held_at (blocks_at n js) ≡ map (λ j. held_kind r.kind w.parts j (value_in w r.statement)) js
+  held-blocks : (r : Recipe) (n : NodeId) → Stands w.script p.recipes r n → (js : List ℕ) → map held_at (blocks_at n js) ≡ map (λ j. held_kind w r.kind r j) js
   held-blocks r n stands [] = refl
   held-blocks r n stands (j ∷ js) =
-      ap₂ (λ c cs. c ∷ cs) (serves-value w world j r.kind r (recipe_at p.recipes n.0) stands.kind refl stands.serves) (held-blocks r n stands js)
+      ap₂ (λ c cs. c ∷ cs) (serves-value w world j r (recipe_at p.recipes n.0) stands.kind stands.serves) (held-blocks r n stands js)
 
   held-input : (f : Feed) (x : Input) → Stands w.script p.recipes f.recipe x.node → x.pattern ≡ f.pattern → map held_at (blocks_of_input w.parts i x) ≡ fed w i f
   held-input f x stands same =
       held-blocks f.recipe x.node stands (parts_of_pattern w.parts i x.pattern)
-      ∙ ap (λ pattern. map (λ j. held_kind f.recipe.kind w.parts j (value_in w f.recipe.statement)) (parts_of_pattern w.parts i pattern)) same
+      ∙ ap (λ pattern. map (λ j. held_kind w f.recipe.kind f.recipe j) (parts_of_pattern w.parts i pattern)) same
 
-  held-inputs : (fs : List Feed) (xs : List Input) → AreInputsFor w.script p.recipes fs xs → AllByRecursion (λ f. IsOwned w.script f.recipe.kind f.recipe.statement) fs
+  held-inputs : (fs : List Feed) (xs : List Input) → AreInputsFor w.script p.recipes fs xs → AllByRecursion (ReadsOwned w.script) fs
       → map held_at (flat_map (blocks_of_input w.parts i) xs) ≡ flat_map (fed w i) fs
   held-inputs [] [] end owned = refl
   held-inputs [] (x ∷ xs) given owned = elim given [ ]
@@ -69,21 +66,21 @@ module _ (w : World) (world : IsWorld w) (p : Planned) (i : ℕ) where
       map-append held_at (blocks_of_input w.parts i x) (flat_map (blocks_of_input w.parts i) xs)
       ∙ ap₂ (λ cs ds. cs ++ ds) (held-input f x stands same) (held-inputs fs xs rest owned.1)
   held-inputs (f ∷ fs) xs (skipped none rest) owned =
-      absurd (none (recipe_of f.recipe.kind owned.0.0) (owner-serves w f.recipe.kind f.recipe owned.0.0 refl owned.0.1))
+      absurd (unserved-owned w.script f.recipe.kind f.recipe none owned.0)
 
 -- ---- stops
 
-stop-held : (k : Kind) (parts i : ℕ) (g : _) (stop : Option BlockStop) → stop_in (stop_or stop (held_kind k parts i g)) ≡ stop
-stop-held kind.Vertices parts i g None = refl
-stop-held kind.Edges parts i g None = refl
-stop-held k parts i g (Some stop) = refl
+stop-held : (w : World) (k : Kind) (r : Recipe) (i : ℕ) (stop : Option BlockStop) → stop_in (stop_or stop (held_kind w k r i)) ≡ stop
+stop-held w kind.Vertices r i None = refl
+stop-held w kind.Edges r i None = refl
+stop-held w k r i (Some stop) = refl
 
 module _ (w : World) (p : Planned) where
   stops-held : (bs : List BlockId) → first_given stop_in (map (content_of w p) bs) ≡ first_given (stop_of w p) bs
   stops-held [] = refl
   stops-held (b ∷ bs) =
       let r : Recipe = recipe_of_block p b in
-      ap₂ (λ u v. option_or u v) (stop-held r.kind w.parts b.part (value_in w r.statement) (stop_of w p b)) (stops-held bs)
+      ap₂ (λ u v. option_or u v) (stop-held w r.kind r b.part (stop_of w p b)) (stops-held bs)
 
   none_first : (u v : Option BlockStop) → option_or u v ≡ None → (u ≡ None) × (v ≡ None)
   none_first None v e = (refl, e)
@@ -98,23 +95,29 @@ module _ (w : World) (p : Planned) where
 
 -- ---- the law
 
-own-is : (k : Kind) (st : TypedStmt) → Fits k st → is_own k st ≡ true
-own-is kind.Vertices st fit = fit
-own-is kind.Edges st fit = fit
+own-is : (k : Kind) (st : TypedStmt) (r : Recipe) → Fits k st r → is_own k st ≡ true
+own-is kind.Vertices st r fit = fit
+own-is kind.Edges st r fit = fit
 
 own-no_action : (k : Kind) (st : TypedStmt) → is_own k st ≡ true → st ≡ stmts.CountTable 0 → ⊥
 own-no_action kind.Vertices st is e = let none : is_own kind.Vertices (stmts.CountTable 0) ≡ true = subst (λ x. is_own kind.Vertices x ≡ true) e is in cc
 own-no_action kind.Edges st is e = let none : is_own kind.Edges (stmts.CountTable 0) ≡ true = subst (λ x. is_own kind.Edges x ≡ true) e is in cc
 
+-- a node of a result holds a part of it
+result-held : (w : World) (k : Kind) (r : Recipe) (i : ℕ) → part_of_result k w.parts i (value_at w (graph_of r)) ≡ held_kind w k r i
+result-held w kind.Vertices r i = refl
+result-held w kind.Edges r i = refl
+
 -- of a recipe that a statement adds: what is made of what it reads is what it holds, or its fault
-made-recipe : (w : World) → IsWorld w → (r : Recipe) → 1 ≤ r.statement → Fits r.kind (statement_of w.script r.statement) → (i : ℕ)
-    → made_kind w r.kind i r.statement (statement_of w.script r.statement) (flat_map (fed w i) (feeds w.script r)) ≡ stop_or (fault_by w r i) (held_by w r i)
+made-recipe : (w : World) → IsWorld w → (r : Recipe) → 1 ≤ r.statement → Fits r.kind (statement_of w.script r.statement) r → (i : ℕ)
+    → made_kind w r.kind r i (statement_of w.script r.statement) (flat_map (fed w i) (feeds (source_of w) r)) ≡ stop_or (fault_by w r i) (held_by w r i)
 made-recipe w world r from_one fit i =
     let st : TypedStmt = statement_of w.script r.statement in
-    let is : is_own r.kind st ≡ true = own-is r.kind st fit in
+    let is : is_own r.kind st ≡ true = own-is r.kind st r fit in
     let at : IsStatement w r.statement st = is_statement w r.statement (own-no_action r.kind st is) in
-    made-kind w world.some_parts i r.statement r.kind st is
-    ∙ ap (λ g. stop_or (fault_by w r i) (held_kind r.kind w.parts i g)) (sym (value_in-stmt w world r.statement st from_one at))
+    made-kind w world.some_parts r i r.kind st is
+    ∙ ap (λ g. stop_or (fault_by w r i) (part_of_result r.kind w.parts i g)) (sym (value_in-stmt w world r.statement st from_one at))
+    ∙ ap (stop_or (fault_by w r i)) (result-held w r.kind r i)
 
 -- by whether an input is stopped
 made-content : (w : World) (p : Planned) → IsSetting w p → (b : BlockId) → IsBlock p.lineage b → (stop : Option BlockStop) → first_given (stop_of w p) (block_inputs p.lineage b) ≡ stop
@@ -122,7 +125,7 @@ made-content : (w : World) (p : Planned) → IsSetting w p → (b : BlockId) →
 made-content w p setting b here (Some stop) e =
     let r : Recipe = recipe_of_block p b in
     let bs : List BlockId = block_inputs p.lineage b in
-    let made : Content = made_kind w r.kind b.part r.statement (statement_of w.script r.statement) (map (content_of w p) bs) in
+    let made : Content = made_kind w r.kind r b.part (statement_of w.script r.statement) (map (content_of w p) bs) in
     ap (λ u. stop_or u made) (stops-held w p bs ∙ e)
     ∙ sym (ap (λ u. stop_or u (held_by w r b.part)) (stop_of-is w p setting.sound b here ∙ ap (λ u. option_or u (fault_by w r b.part)) e))
 made-content w p setting b here None e =
@@ -130,11 +133,11 @@ made-content w p setting b here None e =
     let bs : List BlockId = block_inputs p.lineage b in
     let within : b.node.0 < length p.recipes = subst (λ n. b.node.0 < n) (sym setting.plan.recipes) here.node in
     let fed_by = setting.plan.fed b.node.0 within in
-    let owned = (sorted-owned w.script setting.world.sorts).read r.statement r.kind fed_by.own.from_one in
-    let read = held-inputs w setting.world p b.part (feeds w.script r) (node_inputs p.lineage b.node) fed_by.read owned in
-    ap₂ (λ u cs. stop_or u (made_kind w r.kind b.part r.statement (statement_of w.script r.statement) cs)) (stops-held w p bs ∙ e) (held-contents w p bs e)
-    ∙ ap (λ n. made_kind w r.kind b.part r.statement (statement_of w.script r.statement) (map (λ c. held_by w (recipe_of_block p c) c.part) (flat_map (blocks_of_input n b.part) (node_inputs p.lineage b.node)))) setting.parts
-    ∙ ap (made_kind w r.kind b.part r.statement (statement_of w.script r.statement)) read
+    let owned = (sorted-owned (source_of w) setting.world.sorts).read r fed_by.own.from_one in
+    let read = held-inputs w setting.world p b.part (feeds (source_of w) r) (node_inputs p.lineage b.node) fed_by.read owned in
+    ap₂ (λ u cs. stop_or u (made_kind w r.kind r b.part (statement_of w.script r.statement) cs)) (stops-held w p bs ∙ e) (held-contents w p bs e)
+    ∙ ap (λ n. made_kind w r.kind r b.part (statement_of w.script r.statement) (map (λ c. held_by w (recipe_of_block p c) c.part) (flat_map (blocks_of_input n b.part) (node_inputs p.lineage b.node)))) setting.parts
+    ∙ ap (made_kind w r.kind r b.part (statement_of w.script r.statement)) read
     ∙ made-recipe w setting.world r fed_by.own.from_one fed_by.own.fit b.part
     ∙ sym (ap (λ u. stop_or u (held_by w r b.part)) (stop_of-is w p setting.sound b here ∙ ap (λ u. option_or u (fault_by w r b.part)) e))
 

@@ -20,13 +20,13 @@ use Rattle.gx_plan.specs.StmtNodes.{feeds_kind}
 use Rattle.gx_plan.specs.declared.feed.Feed.{Feed}
 use Rattle.gx_plan.specs.declared.kind.Kind.{Kind}
 use Rattle.gx_plan.specs.declared.kind.Kind.TheVariants as kind
+use Rattle.gx_plan.specs.declared.recipe.Recipe.{Recipe}
 use Rattle.gx_lineage.specs.Lineage.{parts_of_pattern}
 use Rattle.gx_types_stmts.specs.declared.typed_stmt.TypedStmt.{TypedStmt}
 use Rattle.gx_types_stmts.specs.declared.typed_stmt.TypedStmt.TheVariants as stmts
-use Rattle.gx_exec_contents.specs.BlockContents.{value_in_part}
 use Rattle.gx_exec_contents.specs.MadeBlocks.{completed, edges_held, edges_moved, made_kind}
-use Rattle.gx_exec_contents.specs.PartContents.{Content, Edges, Table, fault_kind, held_kind, part_of_edges, part_of_vertices, stop_or}
-use Rattle.gx_exec_contents.specs.Worlds.{World, places_in, placed_values, value_in}
+use Rattle.gx_exec_contents.specs.PartContents.{Content, Edges, Table, fault_kind, held_kind, part_of_edges, part_of_result, part_of_value, part_of_vertices, stop_or}
+use Rattle.gx_exec_contents.specs.Worlds.{World, places_in, placed_values, source_of, value_in}
 use Rattle.gx_exec_contents.proofs.EndsOfParts.{ArePlaced, ends_of_parts, has_id-filter}
 use Rattle.gx_exec_contents.proofs.MadeTables.{diff-is, inner_joined-is, kept-is, left_joined-is, mapped-is, minus-is}
 use Rattle.gx_exec_contents.proofs.MovedEdges.{order-moved}
@@ -37,7 +37,7 @@ use Rattle.gx_exec_contents.proofs.TableParts.{part-table_of_rows, part-with_def
 
 -- what part i reads of a feed
 abbrev pub fed : World → ℕ → Feed → List Content
-fed w i f = map (λ j. held_kind f.recipe.kind w.parts j (value_in w f.recipe.statement)) (parts_of_pattern w.parts i f.pattern)
+fed w i f = map (λ j. held_kind w f.recipe.kind f.recipe j) (parts_of_pattern w.parts i f.pattern)
 
 -- ---- tables with defaults
 
@@ -82,31 +82,31 @@ moved-is w i cut edges placed =
 
 -- ---- each statement
 
-pub made-kind : (w : World) → 0 < w.parts → (i s : ℕ) (k : Kind) (st : TypedStmt) → is_own k st ≡ true
-    → made_kind w k i s st (flat_map (fed w i) (feeds_kind k st))
-    ≡ stop_or (fault_kind k (value_in_part w i) st) (held_kind k w.parts i (value_of_stmt (places_in w) w.loads (placed_values w) s st))
-made-kind w some i s kind.Vertices (stmts.Vertices file) own =
-    ap Table (table_of-is (part_of_vertices w.parts i (vertices_loaded w.loads s)) ∙ sym (part-table_of_rows w.parts i (vertices_loaded w.loads s)))
-made-kind w some i s kind.Vertices (stmts.Graph t e default) own =
+pub made-kind : (w : World) → 0 < w.parts → (r : Recipe) (i : ℕ) (k : Kind) (st : TypedStmt) → is_own k st ≡ true
+    → made_kind w k r i st (flat_map (fed w i) (feeds_kind k st (source_of w) r))
+    ≡ stop_or (fault_kind w k r (part_of_value k w.parts i) st) (part_of_result k w.parts i (value_of_stmt (places_in w) w.loads (placed_values w) r.statement st))
+made-kind w some r i kind.Vertices (stmts.Vertices file) own =
+    ap Table (table_of-is (part_of_vertices w.parts i (vertices_loaded w.loads r.statement)) ∙ sym (part-table_of_rows w.parts i (vertices_loaded w.loads r.statement)))
+made-kind w some r i kind.Vertices (stmts.Graph t e default) own =
     completed-is w i (value_in w t).vertices default (value_in w e).edges (value-placed w some e).placed
-made-kind w some i s kind.Vertices (stmts.FromEdges e row) own =
+made-kind w some r i kind.Vertices (stmts.FromEdges e row) own =
     completed-is w i [] row (value_in w e).edges (value-placed w some e).placed
-made-kind w some i s kind.Vertices (stmts.MapVertices g sets) own =
+made-kind w some r i kind.Vertices (stmts.MapVertices g sets) own =
     mapped-is w.parts i sets (value_in w g).vertices (value-placed w some g).ascending
-made-kind w some i s kind.Vertices (stmts.Filter t condition) own =
+made-kind w some r i kind.Vertices (stmts.Filter t condition) own =
     kept-is w.parts i condition (value_in w t).vertices (value-placed w some t).ascending
-made-kind w some i s kind.Vertices (stmts.MapValues t sets) own =
+made-kind w some r i kind.Vertices (stmts.MapValues t sets) own =
     mapped-is w.parts i sets (value_in w t).vertices (value-placed w some t).ascending
-made-kind w some i s kind.Vertices (stmts.Minus t u) own = ap Table (minus-is w.parts i (value_in w t).vertices (value_in w u).vertices)
-made-kind w some i s kind.Vertices (stmts.Diff t u) own = ap Table (diff-is w.parts i (value_in w t).vertices (value_in w u).vertices)
-made-kind w some i s kind.Vertices (stmts.InnerJoin t u sets) own =
+made-kind w some r i kind.Vertices (stmts.Minus t u) own = ap Table (minus-is w.parts i (value_in w t).vertices (value_in w u).vertices)
+made-kind w some r i kind.Vertices (stmts.Diff t u) own = ap Table (diff-is w.parts i (value_in w t).vertices (value_in w u).vertices)
+made-kind w some r i kind.Vertices (stmts.InnerJoin t u sets) own =
     inner_joined-is w.parts i sets (value_in w t).vertices (value_in w u).vertices (value-placed w some t).ascending
-made-kind w some i s kind.Vertices (stmts.LeftJoin t u default sets) own =
+made-kind w some r i kind.Vertices (stmts.LeftJoin t u default sets) own =
     left_joined-is w.parts i sets default (value_in w t).vertices (value_in w u).vertices (value-placed w some t).ascending
-made-kind w some i s kind.Vertices (stmts.Partition g cut) own = absurd cc
-made-kind w some i s kind.Edges (stmts.Partition g cut) own = moved-is w i cut (value_in w g).edges (value-placed w some g).placed
-made-kind w some i s kind.Edges (stmts.Graph t e default) own = absurd cc
-made-kind w some i s kind.Edges (stmts.FromEdges e row) own = absurd cc
-made-kind w some i s kind.Edges (stmts.MapVertices g sets) own = absurd cc
-made-kind w some i s kind.Vertices _ own = refl
-made-kind w some i s kind.Edges _ own = refl
+made-kind w some r i kind.Vertices (stmts.Partition g cut) own = absurd cc
+made-kind w some r i kind.Edges (stmts.Partition g cut) own = moved-is w i cut (value_in w g).edges (value-placed w some g).placed
+made-kind w some r i kind.Edges (stmts.Graph t e default) own = absurd cc
+made-kind w some r i kind.Edges (stmts.FromEdges e row) own = absurd cc
+made-kind w some r i kind.Edges (stmts.MapVertices g sets) own = absurd cc
+made-kind w some r i kind.Vertices _ own = refl
+made-kind w some r i kind.Edges _ own = refl

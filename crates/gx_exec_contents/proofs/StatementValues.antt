@@ -23,7 +23,7 @@ use Rattle.gx_rows.specs.Order.{Edge}
 use Rattle.gx_types_stmts.specs.declared.checked_stmt.CheckedStmt.{CheckedStmt}
 use Rattle.gx_types_stmts.specs.declared.typed_stmt.TypedStmt.{TypedStmt}
 use Rattle.gx_types_stmts.specs.declared.typed_stmt.TypedStmt.TheVariants as stmts
-use Rattle.gx_exec_contents.specs.PartContents.{held_kind}
+use Rattle.gx_exec_contents.specs.PartContents.{part_of_result}
 use Rattle.gx_exec_contents.specs.Worlds.{IsWorld, World, is_modelled, places_in, placed_values, stmts_of, value_in}
 use Rattle.gx_exec_contents.proofs.EndsOfParts.{ArePlaced}
 use Rattle.gx_exec_contents.proofs.TableParts.{IsAscending-passing, IsAscending-with_new_rows}
@@ -160,15 +160,15 @@ is_statement w s other = found-or w.script (s - 1) (slice_get w.script (s - 1)) 
 
 -- a value holds what it takes over
 kept-kind : (placement : Placement ℕ) (loads : LoadedRows) (vs : List (Graph ℕ)) (s m parts i : ℕ) (k : Kind) (st : TypedStmt) → inherits k st ≡ Some m → is_modelled st ≡ true
-    → held_kind k parts i (value_of_stmt placement loads vs s st) ≡ held_kind k parts i (value_named vs m)
+    → part_of_result k parts i (value_of_stmt placement loads vs s st) ≡ part_of_result k parts i (value_named vs m)
 kept-kind placement loads vs s m parts i kind.Edges (stmts.Graph t e default) from modelled =
-    let same : e ≡ m = cc in ap (λ n. held_kind kind.Edges parts i (value_named vs n)) same
+    let same : e ≡ m = cc in ap (λ n. part_of_result kind.Edges parts i (value_named vs n)) same
 kept-kind placement loads vs s m parts i kind.Edges (stmts.FromEdges e row) from modelled =
-    let same : e ≡ m = cc in ap (λ n. held_kind kind.Edges parts i (value_named vs n)) same
+    let same : e ≡ m = cc in ap (λ n. part_of_result kind.Edges parts i (value_named vs n)) same
 kept-kind placement loads vs s m parts i kind.Edges (stmts.MapVertices g sets) from modelled =
-    let same : g ≡ m = cc in ap (λ n. held_kind kind.Edges parts i (value_named vs n)) same
+    let same : g ≡ m = cc in ap (λ n. part_of_result kind.Edges parts i (value_named vs n)) same
 kept-kind placement loads vs s m parts i kind.Vertices (stmts.Partition g cut) from modelled =
-    let same : g ≡ m = cc in ap (λ n. held_kind kind.Vertices parts i (value_named vs n)) same
+    let same : g ≡ m = cc in ap (λ n. part_of_result kind.Vertices parts i (value_named vs n)) same
 kept-kind placement loads vs s m parts i kind.Vertices (stmts.Reverse g) from modelled = absurd cc
 kept-kind placement loads vs s m parts i kind.Vertices (stmts.MapEdges g sets) from modelled = absurd cc
 kept-kind placement loads vs s m parts i kind.Vertices _ from modelled = absurd cc
@@ -178,18 +178,18 @@ taken-no_action : (k : Kind) (st : TypedStmt) (m : ℕ) → inherits k st ≡ So
 taken-no_action kind.Vertices st m from e = let none : inherits kind.Vertices (stmts.CountTable 0) ≡ Some m = subst (λ x. inherits kind.Vertices x ≡ Some m) e from in cc
 taken-no_action kind.Edges st m from e = let none : inherits kind.Edges (stmts.CountTable 0) ≡ Some m = subst (λ x. inherits kind.Edges x ≡ Some m) e from in cc
 
-kept-later : (w : World) → IsWorld w → (s m i : ℕ) (k : Kind) → inherits k (statement_of w.script (suc s)) ≡ Some m → held_kind k w.parts i (value_in w (suc s)) ≡ held_kind k w.parts i (value_in w m)
+kept-later : (w : World) → IsWorld w → (s m i : ℕ) (k : Kind) → inherits k (statement_of w.script (suc s)) ≡ Some m → part_of_result k w.parts i (value_in w (suc s)) ≡ part_of_result k w.parts i (value_in w m)
 kept-later w world s m i k from =
     let st : TypedStmt = statement_of w.script (suc s) in
     let at : IsStatement w (suc s) st = is_statement w (suc s) (taken-no_action k st m from) in
-    ap (held_kind k w.parts i) (value_in-stmt w world (suc s) st (omega arith) at)
+    ap (part_of_result k w.parts i) (value_in-stmt w world (suc s) st (omega arith) at)
     ∙ kept-kind (places_in w) w.loads (placed_values w) (suc s) m w.parts i k st from (world.modelled (suc s))
 
-kept-value : (w : World) → IsWorld w → (s m i : ℕ) (k : Kind) → inherits k (statement_of w.script s) ≡ Some m → held_kind k w.parts i (value_in w s) ≡ held_kind k w.parts i (value_in w m)
+kept-value : (w : World) → IsWorld w → (s m i : ℕ) (k : Kind) → inherits k (statement_of w.script s) ≡ Some m → part_of_result k w.parts i (value_in w s) ≡ part_of_result k w.parts i (value_in w m)
 kept-value w world zero m i k from = kept-later w world 0 m i k from
 kept-value w world (suc s) m i k from = kept-later w world s m i k from
 
 -- the owner's value holds the same
-pub owned-value : (w : World) → IsWorld w → (i : ℕ) (k : Kind) (s owner : ℕ) → Owns w.script k s owner → held_kind k w.parts i (value_in w s) ≡ held_kind k w.parts i (value_in w owner)
+pub owned-value : (w : World) → IsWorld w → (i : ℕ) (k : Kind) (s owner : ℕ) → Owns w.script k s owner → part_of_result k w.parts i (value_in w s) ≡ part_of_result k w.parts i (value_in w owner)
 owned-value w world i k s owner (own is) = refl
 owned-value w world i k s owner (taken {m = m} from before) = kept-value w world s m i k from ∙ owned-value w world i k m owner before

@@ -3,25 +3,20 @@ use Rattle.std.specs.Prelude.{ℕ, Option, None}
 use Rattle.std.specs.Option.{option_or}
 use Rattle.gx_exec_contents.specs.Deep.{deep_at}
 use Rattle.gx_exec_contents.specs.PartContents.{BlockStop, Content, fault_kind, first_given, held_kind, part_of_value, stop_or}
-use Rattle.gx_exec_contents.specs.Worlds.{World, value_in}
+use Rattle.gx_exec_contents.specs.Worlds.{World}
 use Rattle.gx_lineage.specs.Lineage.{block_inputs}
 use Rattle.gx_lineage.specs.declared.block_id.BlockId.{BlockId}
-use Rattle.gx_model.specs.Graphs.{Graph}
 use Rattle.gx_plan.specs.Plans.{Planned, recipe_at}
 use Rattle.gx_plan.specs.StmtNodes.{statement_of}
 use Rattle.gx_plan.specs.declared.recipe.Recipe.{Recipe}
 
 -- what part i of a node of this recipe holds, if nothing is at fault
 abbrev pub held_by : World → Recipe → ℕ → Content
-held_by w r i = held_kind r.kind w.parts i (value_in w r.statement)
-
--- what part i has of the value of statement s
-abbrev pub value_in_part : World → ℕ → ℕ → Graph ℕ
-value_in_part w i s = part_of_value w.parts i (value_in w s)
+held_by w r i = held_kind w r.kind r i
 
 -- the fault of part i of a node of this recipe: the least of its statement on that part
 abbrev pub fault_by : World → Recipe → ℕ → Option BlockStop
-fault_by w r i = fault_kind r.kind (value_in_part w i) (statement_of w.script r.statement)
+fault_by w r i = fault_kind w r.kind r (part_of_value r.kind w.parts i) (statement_of w.script r.statement)
 
 abbrev pub recipe_of_block : Planned → BlockId → Recipe
 recipe_of_block p b = recipe_at p.recipes b.node.0

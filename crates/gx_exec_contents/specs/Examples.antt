@@ -14,6 +14,7 @@ use Rattle.gx_model.specs.Values.{value_named}
 use Rattle.gx_plan.specs.PlanLaws.{MovesByEnds}
 use Rattle.gx_plan.specs.Plans.{Planned, empty_plan, with_number}
 use Rattle.gx_plan.specs.Recipes.{recipe_of}
+use Rattle.gx_plan.specs.StmtNodes.{ScriptWithCut}
 use Rattle.gx_plan.specs.declared.kind.Kind.TheVariants as kind
 use Rattle.gx_rows.specs.declared.cause.Cause.TheVariants as cause
 use Rattle.gx_rows.specs.declared.row_key.RowKey.TheVariants as row_key
@@ -27,7 +28,7 @@ use Rattle.gx_vtable.specs.NewRows.{vertex_id}
 use Rattle.gx_exec_contents.specs.BlockContents.{content_of, stop_of}
 use Rattle.gx_exec_contents.specs.MadeBlocks.{made_by, made_kind, vertices_kept, vertices_made}
 use Rattle.gx_exec_contents.specs.PartContents.{BlockStop, Content, Edges, Stopped, Table}
-use Rattle.gx_exec_contents.specs.Worlds.{World, loaded_in, placed_values, value_in}
+use Rattle.gx_exec_contents.specs.Worlds.{World, loaded_in, placed_values, source_of, value_in}
 
 vertex : ℕ → Vid
 vertex n = record { 0 = pos n }
@@ -46,13 +47,13 @@ four_statements = record {
   cut = OneD;
 }
 
-with_numbers : List CheckedStmt → Planned → List ℕ → Planned
-with_numbers script p [] = p
-with_numbers script p (s ∷ ss) = with_numbers script (with_number script p s) ss
+with_numbers : ScriptWithCut → Planned → List ℕ → Planned
+with_numbers source p [] = p
+with_numbers source p (s ∷ ss) = with_numbers source (with_number source p s) ss
 
 -- its nodes are the vertices of `t`, the edges of `e`, and the vertices of `g` and of `f`
 plan_of_four : Planned
-plan_of_four = with_numbers four_statements.script (empty_plan 2 4) (1 ∷ 2 ∷ 3 ∷ 4 ∷ [])
+plan_of_four = with_numbers (source_of four_statements) (empty_plan 2 4) (1 ∷ 2 ∷ 3 ∷ 4 ∷ [])
 
 block : ℕ → ℕ → BlockId
 block node part = record { node = record { 0 = node }; part = part }
@@ -121,9 +122,9 @@ made-moved = refl
 -- ---- two tables
 
 -- a part of `minus` and one of `diff`, of a part with 1,25 and 3,30 and one with 3,31
-made-of_two : (made_kind moving kind.Vertices 0 4 (stmts.Minus 1 2) (Table ((vertex 1, Int (pos 25) ∷ []) ∷ (vertex 3, Int (pos 30) ∷ []) ∷ []) ∷ Table ((vertex 3, Int (pos 31) ∷ []) ∷ []) ∷ [])
+made-of_two : (made_kind moving kind.Vertices (recipe_of kind.Vertices 4) 0 (stmts.Minus 1 2) (Table ((vertex 1, Int (pos 25) ∷ []) ∷ (vertex 3, Int (pos 30) ∷ []) ∷ []) ∷ Table ((vertex 3, Int (pos 31) ∷ []) ∷ []) ∷ [])
     ≡ Table ((vertex 1, Int (pos 25) ∷ []) ∷ []))
-    × (made_kind moving kind.Vertices 0 4 (stmts.Diff 1 2) (Table ((vertex 1, Int (pos 25) ∷ []) ∷ (vertex 3, Int (pos 30) ∷ []) ∷ []) ∷ Table ((vertex 3, Int (pos 31) ∷ []) ∷ []) ∷ [])
+    × (made_kind moving kind.Vertices (recipe_of kind.Vertices 4) 0 (stmts.Diff 1 2) (Table ((vertex 1, Int (pos 25) ∷ []) ∷ (vertex 3, Int (pos 30) ∷ []) ∷ []) ∷ Table ((vertex 3, Int (pos 31) ∷ []) ∷ []) ∷ [])
     ≡ Table ((vertex 3, Int (pos 31) ∷ []) ∷ []))
 unfolding vertex
 made-of_two = (refl, refl)

@@ -7,8 +7,10 @@ use Rattle.gx_index.specs.Ids.{id_cmp}
 use Rattle.gx_model.specs.Graphs.{Graph, Vertex, plain_edges}
 use Rattle.gx_model.specs.StmtFaults.{KeyFault, faults_on_vertices, least_fault}
 use Rattle.gx_model.specs.Values.{join_row_result, vertex_row_result, vertex_test_result, vertices_in_both}
+use Rattle.gx_plan.specs.Recipes.{graph_of}
 use Rattle.gx_plan.specs.declared.kind.Kind.{Kind}
 use Rattle.gx_plan.specs.declared.kind.Kind.TheVariants as kind
+use Rattle.gx_plan.specs.declared.recipe.Recipe.{Recipe}
 use Rattle.gx_rows.specs.Order.{Edge}
 use Rattle.gx_rows.specs.declared.cause.Cause.{Cause}
 use Rattle.gx_rows.specs.declared.row_key.RowKey.{RowKey}
@@ -16,6 +18,7 @@ use Rattle.gx_rows.specs.declared.row_key.RowKey.TheVariants as row_key
 use Rattle.gx_rows.specs.declared.vid.Vid.{Vid}
 use Rattle.gx_types_stmts.specs.declared.typed_stmt.TypedStmt.{TypedStmt}
 use Rattle.gx_types_stmts.specs.declared.typed_stmt.TypedStmt.TheVariants as stmts
+use Rattle.gx_exec_contents.specs.Worlds.{World, value_at, value_in}
 
 -- ---- parts
 
@@ -27,9 +30,10 @@ part_of_vertices parts i vertices = filter (λ v. is_in_part i parts v.0) vertic
 abbrev pub part_of_edges : ℕ → List (ℕ × Edge) → List Edge
 part_of_edges i edges = plain_edges (filter (λ e. e.0 == i) edges)
 
--- the vertices and edges of a value in part i
-abbrev pub part_of_value : ℕ → ℕ → Graph ℕ → Graph ℕ
-part_of_value parts i g = record { vertices = part_of_vertices parts i g.vertices; edges = filter (λ e. e.0 == i) g.edges }
+-- a value with the vertices, or the edges, of part i alone, as a node of this kind takes it part by part
+abbrev pub part_of_value : Kind → ℕ → ℕ → Graph ℕ → Graph ℕ
+part_of_value kind.Vertices parts i g = record { vertices = part_of_vertices parts i g.vertices; edges = g.edges }
+part_of_value kind.Edges parts i g = record { vertices = g.vertices; edges = filter (λ e. e.0 == i) g.edges }
 
 -- ---- contents
 
@@ -48,10 +52,15 @@ pub data Content : Type 0 where
   -- nothing, since the block or one that it is computed from has a fault
   Stopped : BlockStop → Content
 
--- what a block of this kind holds of a value in part i, if nothing is at fault
-abbrev pub held_kind : Kind → ℕ → ℕ → Graph ℕ → Content
-held_kind kind.Vertices parts i g = Table (part_of_vertices parts i g.vertices)
-held_kind kind.Edges parts i g = Edges (edge_order_of (part_of_edges i g.edges))
+-- part i of a value, by the kind of its rows
+abbrev pub part_of_result : Kind → ℕ → ℕ → Graph ℕ → Content
+part_of_result kind.Vertices parts i g = Table (part_of_vertices parts i g.vertices)
+part_of_result kind.Edges parts i g = Edges (edge_order_of (part_of_edges i g.edges))
+
+-- what part i of a node of this kind and recipe holds, if nothing is at fault
+abbrev pub held_kind : World → Kind → Recipe → ℕ → Content
+held_kind w kind.Vertices r i = part_of_result kind.Vertices w.parts i (value_at w (graph_of r))
+held_kind w kind.Edges r i = part_of_result kind.Edges w.parts i (value_at w (graph_of r))
 
 -- ---- faults
 
@@ -62,17 +71,20 @@ stop_on_vertex f = record { key = row_key.Vertex f.0; expr = f.1.1; cause = f.1.
 abbrev pub stop_over_vertices : {A : Type 0} → (Vertex → Result A (Cause × ℕ)) → List Vertex → Option BlockStop
 stop_over_vertices result vertices = option_map stop_on_vertex (least_fault id_cmp (faults_on_vertices result vertices))
 
--- the fault of the own node of this kind, where the statements that it names have these values
-abbrev pub fault_kind : Kind → (ℕ → Graph ℕ) → TypedStmt → Option BlockStop
-fault_kind kind.Vertices values (stmts.MapVertices g sets) = stop_over_vertices (vertex_row_result sets) (values g).vertices
-fault_kind kind.Vertices values (stmts.Filter t condition) =
-    stop_over_vertices (vertex_test_result condition) (values t).vertices
-fault_kind kind.Vertices values (stmts.MapValues t sets) = stop_over_vertices (vertex_row_result sets) (values t).vertices
-fault_kind kind.Vertices values (stmts.InnerJoin t u sets) =
-    stop_over_vertices (join_row_result sets (values u).vertices []) (vertices_in_both (values t).vertices (values u).vertices)
-fault_kind kind.Vertices values (stmts.LeftJoin t u default sets) =
-    stop_over_vertices (join_row_result sets (values u).vertices default) (values t).vertices
-fault_kind _ values _ = None
+-- the fault of a statement's node of this kind and recipe, where values are cut so: to a part, or not at all
+abbrev pub fault_kind : World → Kind → Recipe → (Graph ℕ → Graph ℕ) → TypedStmt → Option BlockStop
+fault_kind w kind.Vertices r cut (stmts.MapVertices g sets) =
+    stop_over_vertices (vertex_row_result sets) (cut (value_in w g)).vertices
+fault_kind w kind.Vertices r cut (stmts.Filter t condition) =
+    stop_over_vertices (vertex_test_result condition) (cut (value_in w t)).vertices
+fault_kind w kind.Vertices r cut (stmts.MapValues t sets) =
+    stop_over_vertices (vertex_row_result sets) (cut (value_in w t)).vertices
+fault_kind w kind.Vertices r cut (stmts.InnerJoin t u sets) =
+    stop_over_vertices (join_row_result sets (cut (value_in w u)).vertices [])
+    (vertices_in_both (cut (value_in w t)).vertices (cut (value_in w u)).vertices)
+fault_kind w kind.Vertices r cut (stmts.LeftJoin t u default sets) =
+    stop_over_vertices (join_row_result sets (cut (value_in w u)).vertices default) (cut (value_in w t)).vertices
+fault_kind w _ r cut _ = None
 
 -- ---- stops
 

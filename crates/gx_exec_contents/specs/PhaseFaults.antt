@@ -10,8 +10,8 @@ use Rattle.gx_lineage.specs.declared.block_id.BlockId.{BlockId}
 use Rattle.gx_lineage.specs.declared.node_id.NodeId.{NodeId}
 use Rattle.gx_plan.specs.Plans.{Planned, recipe_at}
 use Rattle.gx_model.specs.StmtFaults.{fault_of_stmt}
+use Rattle.gx_plan.specs.Recipes.{recipe_of}
 use Rattle.gx_plan.specs.StmtNodes.{own_kinds, statement_of}
-use Rattle.gx_plan.specs.declared.kind.Kind.TheVariants as kind
 use Rattle.gx_plan.specs.declared.recipe.Recipe.{Recipe}
 use Rattle.gx_rows.specs.Order.{edge_cmp}
 use Rattle.gx_rows.specs.declared.cause.Cause.TheVariants as cause
@@ -21,7 +21,7 @@ use Rattle.gx_rows.specs.declared.row_key.RowKey.TheVariants.{Vertex, Edge}
 use Rattle.gx_types_stmts.specs.declared.typed_stmt.TypedStmt.{TypedStmt}
 use Rattle.gx_exec_contents.specs.BlockContents.{fault_by, stop_of}
 use Rattle.gx_exec_contents.specs.PartContents.{BlockStop, fault_kind, first_given}
-use Rattle.gx_exec_contents.specs.Worlds.{IsSetting, IsWorld, World, placed_values, value_in}
+use Rattle.gx_exec_contents.specs.Worlds.{IsSetting, IsWorld, World, placed_values}
 
 -- vertices by their identifiers, edges in edge order, and vertices before edges
 abbrev pub key_cmp : RowKey → RowKey → Ordering
@@ -46,7 +46,7 @@ least_over f (j ∷ js) = lesser_of (f j) (least_over f js)
 
 -- the fault of a node's statement, on all parts
 abbrev pub fault_in : World → Recipe → Option BlockStop
-fault_in w r = fault_kind r.kind (value_in w) (statement_of w.script r.statement)
+fault_in w r = fault_kind w r.kind r (λ g. g) (statement_of w.script r.statement)
 
 -- a stop, as the fault of statement s
 abbrev pub fault_of_stop : ℕ → BlockStop → Fault
@@ -56,15 +56,11 @@ fault_of_stop s stop = record { statement = s; key = stop.key; expr = stop.expr;
 abbrev pub LeastAreFaults : Type 0
 LeastAreFaults = (w : World) → IsWorld w → (r : Recipe) → least_over (fault_by w r) (range_with_len 0 w.parts) ≡ fault_in w r
 
--- which is that of the model
-abbrev pub FaultsAreOfModel : Type 0
-FaultsAreOfModel = (w : World) (s : ℕ) (st : TypedStmt)
-    → fault_of_stmt (placed_values w) s st ≡ option_map (fault_of_stop s) (fault_kind kind.Vertices (value_in w) st)
-
--- the first fault of a statement's own nodes is the fault of the statement
+-- the first fault of a statement's own nodes is the model's fault of the statement
 abbrev pub OwnFaultsAreOfModel : Type 0
 OwnFaultsAreOfModel = (w : World) (s : ℕ) (st : TypedStmt)
-    → first_given (λ k. option_map (fault_of_stop s) (fault_kind k (value_in w) st)) (own_kinds st) ≡ fault_of_stmt (placed_values w) s st
+    → first_given (λ k. option_map (fault_of_stop s) (fault_kind w k (recipe_of k s) (λ g. g) st)) (own_kinds st)
+    ≡ fault_of_stmt (placed_values w) s st
 
 -- ---- by the blocks of a node
 

@@ -9,7 +9,8 @@ use Rattle.gx_model.specs.Values.{LoadedRows, value_named, values_of_script}
 use Rattle.gx_plan.specs.PlanInvariant.{IsPlan}
 use Rattle.gx_plan.specs.PlanLaws.{HasSorts, MovesByEnds}
 use Rattle.gx_plan.specs.Plans.{Planned}
-use Rattle.gx_plan.specs.StmtNodes.{statement_of}
+use Rattle.gx_plan.specs.Recipes.{GraphName}
+use Rattle.gx_plan.specs.StmtNodes.{ScriptWithCut, statement_of}
 use Rattle.gx_rows.specs.Order.{Edge}
 use Rattle.gx_types.specs.Needs.{NamesAreUsed, UseEarlier}
 use Rattle.gx_types_stmts.specs.declared.checked_stmt.CheckedStmt.{CheckedStmt}
@@ -22,6 +23,9 @@ pub record World : Type 0 where
   pub loads : LoadedRows
   pub parts : ℕ
   pub cut : Cut
+
+abbrev pub source_of : World → ScriptWithCut
+source_of w = record { script = w.script; cut = w.cut }
 
 -- the part of a loaded edge, by its ordinal
 abbrev pub place_in : World → ℕ → Edge → ℕ
@@ -41,6 +45,10 @@ placed_values w = values_of_script (places_in w) w.loads (stmts_of w)
 -- the value of statement s
 abbrev pub value_in : World → ℕ → Graph ℕ
 value_in w s = value_named (placed_values w) s
+
+-- the value of a table or a graph by its name: that of its statement, since none has rounds so far
+abbrev pub value_at : World → GraphName → Graph ℕ
+value_at w g = value_in w g.statement
 
 -- the script with its loaded rows, as the plain model knows it: without parts and places
 abbrev pub loaded_in : World → Loaded
@@ -76,13 +84,13 @@ pub record IsWorld (w : World) : Type 0 where
   pub some_parts : 0 < w.parts
   pub earlier : UseEarlier w.script
   pub named : All NamesAreUsed w.script
-  pub sorts : HasSorts w.script
+  pub sorts : HasSorts (source_of w)
   pub modelled : (s : ℕ) → is_modelled (statement_of w.script s) ≡ true
   pub by_ends : (s : ℕ) → MovesByEnds (statement_of w.script s)
 
 -- a plan of that script, in as many parts
 pub record IsSetting (w : World) (p : Planned) : Type 0 where
   pub world : IsWorld w
-  pub plan : IsPlan w.script p
+  pub plan : IsPlan (source_of w) p
   pub sound : IsSound p.lineage
   pub parts : p.lineage.parts ≡ w.parts

@@ -1,7 +1,7 @@
 -- What is read from the blocks of an action is the model's answer, if they are contents and none is stopped.
 use Rattle.std.proofs.Common.{◌≡◌, ℕ, ◌-◌, ◌≤◌, true, List, Some, length, map, sym, ap, ◌∙◌}
 use Rattle.std.specs.List.{AllByRecursion, flat_map, slice_get}
-use Rattle.std.specs.Option.{option_and_then, option_to_list}
+use Rattle.std.specs.Option.{option_and_then}
 use Rattle.std.proofs.lemmas.List.{length-map}
 use Rattle.gx_cluster.specs.States.{HoldsContents, State, shape}
 use Rattle.gx_cluster_state.specs.Shapes.{all_held}
@@ -21,8 +21,8 @@ use Rattle.gx_lineage.specs.declared.block_id.BlockId.{BlockId}
 use Rattle.gx_model.specs.ActionAnswers.{answer_of_stmt, count_answer, made_named}
 use Rattle.gx_model.specs.Graphs.{plain_edges}
 use Rattle.gx_model.specs.ScriptMeaning.{plain_values}
-use Rattle.gx_plan.specs.Plans.{IsAdded, Planned, node_of, phases_of}
-use Rattle.gx_plan.specs.StmtNodes.{phase_recipes, statement_of}
+use Rattle.gx_plan.specs.Plans.{IsAdded, Planned, phases_of, phases_of_stmt}
+use Rattle.gx_plan.specs.StmtNodes.{statement_of}
 use Rattle.gx_types_stmts.specs.StmtNumbers.{named_numbers}
 use Rattle.gx_types_stmts.specs.declared.typed_stmt.TypedStmt.{TypedStmt}
 use Rattle.gx_types_stmts.specs.declared.typed_stmt.TypedStmt.TheVariants as stmts
@@ -35,7 +35,7 @@ use Rattle.gx_exec_reads.proofs.OneDemand.{blocks_of_phases}
 module _ (w : World) (p : Planned) (setting : IsSetting w p) (quiet : AreQuietBelow w p (length p.lineage.nodes)) (a : ℕ) where
   -- the contents of the blocks that a statement demands
   abbrev demanded_contents : TypedStmt → List Content
-  demanded_contents st = map (content_of w p) (blocks_of_phases w.parts (map (λ r. option_to_list (node_of p r)) (phase_recipes a st)))
+  demanded_contents st = map (content_of w p) (blocks_of_phases w.parts (phases_of_stmt p a st))
 
   -- action by action
   answer-demanded : (st : TypedStmt) → IsAction st → AllByRecursion (IsAdded p) (named_numbers st)

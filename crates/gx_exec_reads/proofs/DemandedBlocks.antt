@@ -2,7 +2,6 @@
 use Rattle.std.proofs.Common.{◌≡◌, ℕ, zero, suc, ◌+◌, ◌<◌, ◌≤◌, ◌&&◌, Bool, true, false, List, [], ◌∷◌, ◌++◌, Option, None, Some, is_some, option_map, IsPermutation, flat_map, length, map, refl, sym, ap, ap₂, ◌∙◌, subst, arith}
 use Rattle.std.specs.List.{cons_option, filter_map, range_with_len}
 use Rattle.std.specs.Map.{lookup}
-use Rattle.std.specs.Option.{option_to_list}
 use Rattle.std.proofs.lemmas.List.Sorted.{IsPermutation-refl}
 use Rattle.gx_cluster.specs.States.{HoldsContents, State, held_value, shape}
 use Rattle.gx_cluster.proofs.ShapeOf.{is_held-shape}
@@ -25,7 +24,7 @@ use Rattle.gx_exec_work.specs.declared.block.Block.{Block}
 use Rattle.gx_lineage.specs.Lineage.{blocks_at}
 use Rattle.gx_lineage.specs.declared.block_id.BlockId.{BlockId}
 use Rattle.gx_lineage.specs.declared.node_id.NodeId.{NodeId}
-use Rattle.gx_model.specs.Graphs.{Graph, plain_edges}
+use Rattle.gx_model.specs.Graphs.{plain_edges}
 use Rattle.gx_plan.specs.PlanInvariant.{IsNodeFor, Serves, Stands}
 use Rattle.gx_plan.specs.Plans.{IsAdded, Planned, node_of, recipe_at}
 use Rattle.gx_plan.specs.Recipes.{recipe_of}
@@ -34,7 +33,7 @@ use Rattle.gx_plan.specs.declared.kind.Kind.TheVariants as kind
 use Rattle.gx_plan.specs.declared.recipe.Recipe.{Recipe}
 use Rattle.gx_rows.specs.Order.{Edge}
 use Rattle.gx_exec_reads.specs.HeldAnswers.{held_contents}
-use Rattle.gx_exec_reads.proofs.OneDemand.{blocks-of_node, blocks_of_phases}
+use Rattle.gx_exec_reads.proofs.OneDemand.{blocks-of_node, blocks_of_phases, phase_of_node}
 use Rattle.gx_exec_reads.proofs.UnmadeRows.{unserved-edges, unserved-vertices}
 
 -- ---- held blocks are contents
@@ -61,23 +60,23 @@ module _ (e : PlannedWorld) (c : State Block) (contents : HoldsContents (IsConte
 
 -- ---- the blocks of a node hold the parts of a value
 
-vertices-of_parts : (parts : ℕ) (g : Graph ℕ) (js : List ℕ) → flat_map vertices_held (map (λ j. held_kind kind.Vertices parts j g) js) ≡ flat_map (λ j. part_of_vertices parts j g.vertices) js
-vertices-of_parts parts g [] = refl
-vertices-of_parts parts g (j ∷ js) = ap (λ vs. part_of_vertices parts j g.vertices ++ vs) (vertices-of_parts parts g js)
+vertices-of_parts : (w : World) (g : ℕ) (js : List ℕ) → flat_map vertices_held (map (held_kind w kind.Vertices (recipe_of kind.Vertices g)) js) ≡ flat_map (λ j. part_of_vertices w.parts j (value_in w g).vertices) js
+vertices-of_parts w g [] = refl
+vertices-of_parts w g (j ∷ js) = ap (λ vs. part_of_vertices w.parts j (value_in w g).vertices ++ vs) (vertices-of_parts w g js)
 
-edges-of_parts : (parts : ℕ) (g : Graph ℕ) (js : List ℕ) → flat_map edges_held (map (λ j. held_kind kind.Edges parts j g) js) ≡ flat_map (λ j. edge_order_of (part_of_edges j g.edges)) js
-edges-of_parts parts g [] = refl
-edges-of_parts parts g (j ∷ js) = ap (λ es. edge_order_of (part_of_edges j g.edges) ++ es) (edges-of_parts parts g js)
+edges-of_parts : (w : World) (g : ℕ) (js : List ℕ) → flat_map edges_held (map (held_kind w kind.Edges (recipe_of kind.Edges g)) js) ≡ flat_map (λ j. edge_order_of (part_of_edges j (value_in w g).edges)) js
+edges-of_parts w g [] = refl
+edges-of_parts w g (j ∷ js) = ap (λ es. edge_order_of (part_of_edges j (value_in w g).edges) ++ es) (edges-of_parts w g js)
 
 module _ (w : World) (p : Planned) (setting : IsSetting w p) (quiet : AreQuietBelow w p (length p.lineage.nodes)) where
-  serves-held : (j g : ℕ) (k : Kind) (made : Recipe) → made.kind ≡ k → Serves w.script k (recipe_of k g) made → held_by w made j ≡ held_kind k w.parts j (value_in w g)
+  serves-held : (j g : ℕ) (k : Kind) (made : Recipe) → made.kind ≡ k → Serves w.script k (recipe_of k g) made → held_by w made j ≡ held_kind w k (recipe_of k g) j
   serves-held j g kind.Vertices made same serves =
-      ap (λ x. held_kind x w.parts j (value_in w made.statement)) same ∙ sym (owned-value w setting.world j kind.Vertices g made.statement serves)
+      ap (λ x. held_kind w x made j) same ∙ sym (owned-value w setting.world j kind.Vertices g made.statement serves)
   serves-held j g kind.Edges made same serves =
-      ap (λ x. held_kind x w.parts j (value_in w made.statement)) same ∙ sym (owned-value w setting.world j kind.Edges g made.statement serves)
+      ap (λ x. held_kind w x made j) same ∙ sym (owned-value w setting.world j kind.Edges g made.statement serves)
 
   part-held : (g : ℕ) (k : Kind) (n : NodeId) → Stands w.script p.recipes (recipe_of k g) n → (j : ℕ) → j < w.parts
-      → content_of w p (record { node = n; part = j }) ≡ held_kind k w.parts j (value_in w g)
+      → content_of w p (record { node = n; part = j }) ≡ held_kind w k (recipe_of k g) j
   part-held g k n stands j below =
       let inside : n.0 < length p.lineage.nodes = subst (λ m. n.0 < m) setting.plan.recipes stands.inside in
       let part : j < p.lineage.parts = subst (λ m. j < m) (sym setting.parts) below in
@@ -85,13 +84,13 @@ module _ (w : World) (p : Planned) (setting : IsSetting w p) (quiet : AreQuietBe
       ∙ serves-held j g k (recipe_at p.recipes n.0) stands.kind stands.serves
 
   parts-held : (g : ℕ) (k : Kind) (n : NodeId) → Stands w.script p.recipes (recipe_of k g) n → (i m : ℕ) → i + m ≤ w.parts
-      → map (content_of w p) (blocks_at n (range_with_len i m)) ≡ map (λ j. held_kind k w.parts j (value_in w g)) (range_with_len i m)
+      → map (content_of w p) (blocks_at n (range_with_len i m)) ≡ map (held_kind w k (recipe_of k g)) (range_with_len i m)
   parts-held g k n stands i zero within = refl
   parts-held g k n stands i (suc m) within =
       ap₂ (λ c cs. c ∷ cs) (part-held g k n stands i (omega (arith, within))) (parts-held g k n stands (i + 1) m (omega (arith, within)))
 
   node-held : (g : ℕ) (k : Kind) (n : NodeId) → Stands w.script p.recipes (recipe_of k g) n
-      → map (content_of w p) (blocks_of_phases w.parts (option_to_list (Some n) ∷ [])) ≡ map (λ j. held_kind k w.parts j (value_in w g)) (range_with_len 0 w.parts)
+      → map (content_of w p) (blocks_of_phases w.parts (phase_of_node (Some n))) ≡ map (held_kind w k (recipe_of k g)) (range_with_len 0 w.parts)
   node-held g k n stands = ap (map (content_of w p)) (blocks-of_node w.parts n) ∙ parts-held g k n stands 0 w.parts (omega arith)
 
   -- ---- the rows of a statement that was added are those of its blocks
@@ -101,26 +100,26 @@ module _ (w : World) (p : Planned) (setting : IsSetting w p) (quiet : AreQuietBe
     high = subst (λ m. g ≤ m) setting.plan.results added.within
 
     vertices-found : (o : Option NodeId) → IsNodeFor w.script p.recipes (recipe_of kind.Vertices g) o
-        → IsPermutation (value_in w g).vertices (flat_map vertices_held (map (content_of w p) (blocks_of_phases w.parts (option_to_list o ∷ []))))
+        → IsPermutation (value_in w g).vertices (flat_map vertices_held (map (content_of w p) (blocks_of_phases w.parts (phase_of_node o))))
     vertices-found (Some n) stands =
         subst (IsPermutation (value_in w g).vertices)
-        (sym (ap (flat_map vertices_held) (node-held g kind.Vertices n stands) ∙ vertices-of_parts w.parts (value_in w g) (range_with_len 0 w.parts)))
+        (sym (ap (flat_map vertices_held) (node-held g kind.Vertices n stands) ∙ vertices-of_parts w g (range_with_len 0 w.parts)))
         (table-is_its_parts w.parts setting.world.some_parts (value_in w g).vertices)
     vertices-found None none = subst (λ vs. IsPermutation vs []) (sym (unserved-vertices w setting.world g added.from_one high none)) (IsPermutation-refl [])
 
     edges-found : (o : Option NodeId) → IsNodeFor w.script p.recipes (recipe_of kind.Edges g) o
-        → IsPermutation (plain_edges (value_in w g).edges) (flat_map edges_held (map (content_of w p) (blocks_of_phases w.parts (option_to_list o ∷ []))))
+        → IsPermutation (plain_edges (value_in w g).edges) (flat_map edges_held (map (content_of w p) (blocks_of_phases w.parts (phase_of_node o))))
     edges-found (Some n) stands =
         let js : List ℕ = range_with_len 0 w.parts in
         let edges : List (ℕ × Edge) = (value_in w g).edges in
         subst (IsPermutation (plain_edges edges))
-        (sym (ap (flat_map edges_held) (node-held g kind.Edges n stands) ∙ edges-of_parts w.parts (value_in w g) js))
+        (sym (ap (flat_map edges_held) (node-held g kind.Edges n stands) ∙ edges-of_parts w g js))
         (edges-of_ordered_parts (IsEdgeOrderOf-unique edge_cmp-exact) (λ j. part_of_edges j edges) js (plain_edges edges)
         (edges-are_their_parts w.parts edges (value-placed w setting.world.some_parts g).placed))
     edges-found None none = subst (λ (es : List (ℕ × Edge)). IsPermutation (plain_edges es) []) (sym (unserved-edges w setting.world g added.from_one high none)) (IsPermutation-refl [])
 
-    pub vertices-demanded : IsPermutation (value_in w g).vertices (flat_map vertices_held (map (content_of w p) (blocks_of_phases w.parts (option_to_list (node_of p (recipe_of kind.Vertices g)) ∷ []))))
-    vertices-demanded = vertices-found (node_of p (recipe_of kind.Vertices g)) (setting.plan.nodes g added kind.Vertices)
+    pub vertices-demanded : IsPermutation (value_in w g).vertices (flat_map vertices_held (map (content_of w p) (blocks_of_phases w.parts (phase_of_node (node_of p (recipe_of kind.Vertices g))))))
+    vertices-demanded = vertices-found (node_of p (recipe_of kind.Vertices g)) (setting.plan.nodes (recipe_of kind.Vertices g) refl added)
 
-    pub edges-demanded : IsPermutation (plain_edges (value_in w g).edges) (flat_map edges_held (map (content_of w p) (blocks_of_phases w.parts (option_to_list (node_of p (recipe_of kind.Edges g)) ∷ []))))
-    edges-demanded = edges-found (node_of p (recipe_of kind.Edges g)) (setting.plan.nodes g added kind.Edges)
+    pub edges-demanded : IsPermutation (plain_edges (value_in w g).edges) (flat_map edges_held (map (content_of w p) (blocks_of_phases w.parts (phase_of_node (node_of p (recipe_of kind.Edges g))))))
+    edges-demanded = edges-found (node_of p (recipe_of kind.Edges g)) (setting.plan.nodes (recipe_of kind.Edges g) refl added)

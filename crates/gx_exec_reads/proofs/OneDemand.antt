@@ -1,7 +1,7 @@
 -- An action has one phase, whose blocks are those of one node.
 use Rattle.std.proofs.Common.{◌≡◌, ℕ, ◌-◌, ◌≤◌, List, [], ◌∷◌, Option, None, Some, IsSome, flat_map, length, map, refl, ap, ◌∙◌, subst, arith}
-use Rattle.std.specs.List.{range_with_len, slice_get}
-use Rattle.std.specs.Option.{option_and_then, option_to_list}
+use Rattle.std.specs.List.{cons_option, range_with_len, slice_get}
+use Rattle.std.specs.Option.{option_and_then}
 use Rattle.std.proofs.lemmas.List.{append-nil, length-map}
 use Rattle.std.proofs.lemmas.List.FromFn.{length-range_with_len}
 use Rattle.gx_lineage.specs.Lineage.{blocks_at}
@@ -9,9 +9,9 @@ use Rattle.gx_lineage.specs.declared.block_id.BlockId.{BlockId}
 use Rattle.gx_lineage.specs.declared.node_id.NodeId.{NodeId}
 use Rattle.gx_model.specs.ActionAnswers.{answer_of_stmt}
 use Rattle.gx_model.specs.Graphs.{Graph}
-use Rattle.gx_plan.specs.Plans.{Planned, node_of, phases_of}
+use Rattle.gx_plan.specs.Plans.{Planned, node_of, phase_at, phases_of, phases_of_stmt}
 use Rattle.gx_plan.specs.Recipes.{recipe_of}
-use Rattle.gx_plan.specs.StmtNodes.{phase_recipes, statement_of}
+use Rattle.gx_plan.specs.StmtNodes.{statement_of}
 use Rattle.gx_plan.specs.declared.kind.Kind.TheVariants as kind
 use Rattle.gx_plan.specs.declared.recipe.Recipe.{Recipe}
 use Rattle.gx_types_stmts.specs.declared.checked_stmt.CheckedStmt.{CheckedStmt}
@@ -41,39 +41,41 @@ action-prints_at script values a low high is =
 
 -- ---- what an action demands
 
-demanded-one : (a : ℕ) (st : TypedStmt) → IsAction st → (r : Recipe) × (phase_recipes a st ≡ r ∷ [])
-demanded-one a (stmts.PrintVertices g) is = (recipe_of kind.Vertices g, refl)
-demanded-one a (stmts.PrintEdges g) is = (recipe_of kind.Edges g, refl)
-demanded-one a (stmts.PrintTable t) is = (recipe_of kind.Vertices t, refl)
-demanded-one a (stmts.CountVertices g) is = (recipe_of kind.Vertices g, refl)
-demanded-one a (stmts.CountEdges g) is = (recipe_of kind.Edges g, refl)
-demanded-one a (stmts.CountTable t) is = (recipe_of kind.Vertices t, refl)
-demanded-one a _ is = absurd is
+-- what a node at which a recipe is found gives
+abbrev pub phase_of_node : Option NodeId → List (List NodeId)
+phase_of_node o = phase_at (cons_option o [])
 
--- one phase, of the node of one recipe
-pub phases-of_action : (script : List CheckedStmt) (p : Planned) (a : ℕ) → IsAction (statement_of script a) → (r : Recipe) × (phases_of script p a ≡ option_to_list (node_of p r) ∷ [])
-phases-of_action script p a is =
-    let one = demanded-one a (statement_of script a) is in
-    (one.0, ap (map (λ r. option_to_list (node_of p r))) one.1)
+phases-by : (p : Planned) (a : ℕ) (st : TypedStmt) → IsAction st → (r : Recipe) × (phases_of_stmt p a st ≡ phase_of_node (node_of p r))
+phases-by p a (stmts.PrintVertices g) is = (recipe_of kind.Vertices g, refl)
+phases-by p a (stmts.PrintEdges g) is = (recipe_of kind.Edges g, refl)
+phases-by p a (stmts.PrintTable t) is = (recipe_of kind.Vertices t, refl)
+phases-by p a (stmts.CountVertices g) is = (recipe_of kind.Vertices g, refl)
+phases-by p a (stmts.CountEdges g) is = (recipe_of kind.Edges g, refl)
+phases-by p a (stmts.CountTable t) is = (recipe_of kind.Vertices t, refl)
+phases-by p a _ is = absurd is
+
+-- one phase, of the node of one recipe; none if there is no node
+pub phases-of_action : (script : List CheckedStmt) (p : Planned) (a : ℕ) → IsAction (statement_of script a) → (r : Recipe) × (phases_of script p a ≡ phase_of_node (node_of p r))
+phases-of_action script p a is = phases-by p a (statement_of script a) is
 
 -- the blocks of the nodes of these phases
 abbrev pub blocks_of_phases : ℕ → List (List NodeId) → List BlockId
 blocks_of_phases parts phases = flat_map (λ n. blocks_at n (range_with_len 0 parts)) (flat_map (λ ns. ns) phases)
 
-pub blocks-of_node : (parts : ℕ) (n : NodeId) → blocks_of_phases parts (option_to_list (Some n) ∷ []) ≡ blocks_at n (range_with_len 0 parts)
+pub blocks-of_node : (parts : ℕ) (n : NodeId) → blocks_of_phases parts (phase_of_node (Some n)) ≡ blocks_at n (range_with_len 0 parts)
 blocks-of_node parts n = append-nil (blocks_at n (range_with_len 0 parts))
 
-few-of_node : (parts : ℕ) (o : Option NodeId) → length (blocks_of_phases parts (option_to_list o ∷ [])) ≤ parts
+few-of_node : (parts : ℕ) (o : Option NodeId) → length (blocks_of_phases parts (phase_of_node o)) ≤ parts
 few-of_node parts None = omega arith
 few-of_node parts (Some n) =
-    let long : length (blocks_of_phases parts (option_to_list (Some n) ∷ [])) ≡ parts
+    let long : length (blocks_of_phases parts (phase_of_node (Some n))) ≡ parts
     = ap length (blocks-of_node parts n) ∙ length-map (range_with_len 0 parts) (λ j. record { node = n; part = j }) ∙ length-range_with_len 0 parts in
     omega (arith, long)
 
 -- an action has at most one block for each part
 pub blocks-of_action_few : (script : List CheckedStmt) (p : Planned) (parts a : ℕ) (bs : List BlockId) → IsAction (statement_of script a) → parts ≤ 64
-    → bs ≡ blocks_of_phases parts (phases_of script p a) → length bs ≤ 64
+    → bs ≡ blocks_of_phases parts (phases_of script p a) → length bs ≤ 128
 blocks-of_action_few script p parts a bs is few same =
     let one = phases-of_action script p a is in
-    let at : length bs ≡ length (blocks_of_phases parts (option_to_list (node_of p one.0) ∷ [])) = ap length (same ∙ ap (blocks_of_phases parts) one.1) in
+    let at : length bs ≡ length (blocks_of_phases parts (phase_of_node (node_of p one.0))) = ap length (same ∙ ap (blocks_of_phases parts) one.1) in
     omega (arith, few, at, few-of_node parts (node_of p one.0))

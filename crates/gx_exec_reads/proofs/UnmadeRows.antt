@@ -2,7 +2,7 @@
 use Rattle.std.proofs.Common.{◌≡◌, ℕ, ◌≤◌, Bool, true, false, List, [], length, refl, ap, ◌∙◌}
 use Rattle.gx_model.specs.Graphs.{Graph, Placement}
 use Rattle.gx_model.specs.Values.{LoadedRows, value_of_stmt}
-use Rattle.gx_plan.specs.PlanInvariant.{IsUnserved, Owns, Serves}
+use Rattle.gx_plan.specs.PlanInvariant.{IsUnserved, Owns}
 use Rattle.gx_plan.specs.PlanLaws.{makes_kind}
 use Rattle.gx_plan.specs.Recipes.{recipe_of}
 use Rattle.gx_plan.specs.StmtNodes.{statement_of}
@@ -11,7 +11,7 @@ use Rattle.gx_plan.specs.declared.kind.Kind.TheVariants as kind
 use Rattle.gx_plan.proofs.SortedScripts.{sorted-owned}
 use Rattle.gx_types_stmts.specs.declared.typed_stmt.TypedStmt.{TypedStmt}
 use Rattle.gx_types_stmts.specs.declared.typed_stmt.TypedStmt.TheVariants as stmts
-use Rattle.gx_exec_contents.specs.Worlds.{IsWorld, World, places_in, placed_values, value_in}
+use Rattle.gx_exec_contents.specs.Worlds.{IsWorld, World, places_in, placed_values, source_of, value_in}
 use Rattle.gx_exec_contents.proofs.StatementValues.{value_in-stmt}
 use Rattle.gx_exec_reads.proofs.NamesInScript.{statement-found}
 
@@ -39,29 +39,29 @@ unmade-edges placement loads vs s (stmts.MapVertices g sets) none = absurd cc
 unmade-edges placement loads vs s _ none = refl
 
 module _ (w : World) (world : IsWorld w) (g : ℕ) (low : 1 ≤ g) (high : g ≤ length w.script) where
-  owner-serves : (k : Kind) (owner : ℕ) → Owns w.script k g owner → Serves w.script k (recipe_of k g) (recipe_of k owner)
-  owner-serves kind.Vertices owner owns = owns
-  owner-serves kind.Edges owner owns = owns
+  unowned : (k : Kind) (owner : ℕ) → IsUnserved w.script k (recipe_of k g) → Owns w.script k g owner → ⊥
+  unowned kind.Vertices owner none owns = none owner owns
+  unowned kind.Edges owner none owns = none owner owns
 
   -- no node serves, so the statement makes none
-  unserved-unmade : (k : Kind) → IsUnserved w.script (recipe_of k g) → makes_kind k (statement_of w.script g) ≡ false
+  unserved-unmade : (k : Kind) → IsUnserved w.script k (recipe_of k g) → makes_kind k (statement_of w.script g) ≡ false
   unserved-unmade k none = by (makes_kind k (statement_of w.script g)) refl
     where
       by : (b : Bool) → makes_kind k (statement_of w.script g) ≡ b → b ≡ false
       by true makes =
-          let owned = (sorted-owned w.script world.sorts).results g k low makes in
-          absurd (none (recipe_of k owned.0) (owner-serves k owned.0 owned.1))
+          let owned = (sorted-owned (source_of w) world.sorts).results g k low makes in
+          absurd (unowned k owned.0 none owned.1)
       by false makes = refl
 
   value-is : value_in w g ≡ value_of_stmt (places_in w) w.loads (placed_values w) g (statement_of w.script g)
   value-is = value_in-stmt w world g (statement_of w.script g) low (statement-found w.script g low high)
 
-  pub unserved-vertices : IsUnserved w.script (recipe_of kind.Vertices g) → (value_in w g).vertices ≡ []
+  pub unserved-vertices : IsUnserved w.script kind.Vertices (recipe_of kind.Vertices g) → (value_in w g).vertices ≡ []
   unserved-vertices none =
       ap (λ (v : Graph ℕ). v.vertices) value-is
       ∙ unmade-vertices (places_in w) w.loads (placed_values w) g (statement_of w.script g) (unserved-unmade kind.Vertices none)
 
-  pub unserved-edges : IsUnserved w.script (recipe_of kind.Edges g) → (value_in w g).edges ≡ []
+  pub unserved-edges : IsUnserved w.script kind.Edges (recipe_of kind.Edges g) → (value_in w g).edges ≡ []
   unserved-edges none =
       ap (λ (v : Graph ℕ). v.edges) value-is
       ∙ unmade-edges (places_in w) w.loads (placed_values w) g (statement_of w.script g) (unserved-unmade kind.Edges none)

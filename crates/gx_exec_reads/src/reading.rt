@@ -43,7 +43,7 @@ pub fn read_answer(
     requires from_one { 1 ≤ a }
     requires within { a ≤ length typed.now }
     requires is_action { IsAction (statement_of typed.now a) }
-    requires few { length blocks.now ≤ 64 }
+    requires few { length blocks.now ≤ 128 }
     ensures { IfOk result (λ answer. answer_record answer
         ≡ answer_of_blocks typed.now a (held_contents cluster.now.held blocks.now)) }
 {
@@ -60,7 +60,7 @@ fn answer_of(
 ) -> Result<Answer, NoMemory>
     requires is_action { IsAction stmt.now }
     requires names { AreNumbersIn typed.now (named_numbers stmt.now) }
-    requires few { length blocks.now ≤ 64 }
+    requires few { length blocks.now ≤ 128 }
     ensures { IfOk result (λ answer. answer_record answer
         ≡ answer_of_contents typed.now stmt.now (held_contents cluster.now.held blocks.now)) }
 {
@@ -131,7 +131,7 @@ fn count_vertices(
     cluster: &Cluster<Block>,
     blocks: &[BlockId],
 ) -> Result<Answer, NoMemory>
-    requires few { length blocks.now ≤ 64 }
+    requires few { length blocks.now ≤ 128 }
     ensures { IfOk result (λ answer. answer_record answer ≡ count_answer
         (length (flat_map vertices_held (held_contents cluster.now.held blocks.now)))) }
 {
@@ -144,7 +144,7 @@ fn count_edges(
     cluster: &Cluster<Block>,
     blocks: &[BlockId],
 ) -> Result<Answer, NoMemory>
-    requires few { length blocks.now ≤ 64 }
+    requires few { length blocks.now ≤ 128 }
     ensures { IfOk result (λ answer. answer_record answer ≡ count_answer
         (length (flat_map edges_held (held_contents cluster.now.held blocks.now)))) }
 {

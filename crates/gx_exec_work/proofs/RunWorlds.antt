@@ -1,6 +1,6 @@
 -- A script that is well typed may be run.
 use Rattle.std.proofs.Common.{◌≡◌, ℕ, ◌-◌, ◌<◌, true, All, List, Option, Some, None, option_map, slice_get, unwrap_or, refl}
-use Rattle.gx_exec_contents.specs.Worlds.{IsWorld, World, is_modelled}
+use Rattle.gx_exec_contents.specs.Worlds.{IsWorld, World, is_modelled, source_of}
 use Rattle.gx_plan.specs.PlanLaws.{HasSorts, MoveByEnds, MovesByEnds}
 use Rattle.gx_plan.specs.StmtNodes.{statement_of}
 use Rattle.gx_types.specs.Built.{is_run}
@@ -41,7 +41,7 @@ at-number P none script all s = by (slice_get script (s - 1)) refl
     by None e = none
     by (Some t) e = all (s - 1) t e
 
-pub world-runs : (w : World) → 0 < w.parts → UseEarlier w.script → All NamesAreUsed w.script → HasSorts w.script → AreRun w.script → MoveByEnds w.script → IsWorld w
+pub world-runs : (w : World) → 0 < w.parts → UseEarlier w.script → All NamesAreUsed w.script → HasSorts (source_of w) → AreRun w.script → MoveByEnds w.script → IsWorld w
 world-runs w some_parts earlier named sorts run by_ends = record {
   some_parts = some_parts;
   earlier = earlier;

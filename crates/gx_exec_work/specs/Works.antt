@@ -4,7 +4,7 @@ use Rattle.std.specs.List.{AllZip}
 use Rattle.gx_cluster_state.specs.Nets.{Net, net_of}
 use Rattle.gx_exec_contents.specs.BlockContents.{content_of, recipe_of_block}
 use Rattle.gx_exec_contents.specs.PartContents.{Content, Edges, Stopped, Table}
-use Rattle.gx_exec_contents.specs.Worlds.{IsSetting, World}
+use Rattle.gx_exec_contents.specs.Worlds.{IsSetting, World, source_of}
 use Rattle.gx_exec_work.specs.declared.block.Block.{Block}
 use Rattle.gx_exec_work.specs.declared.block.Block.TheVariants as block
 use Rattle.gx_lineage.specs.Lineage.{IsBlock, block_inputs}
@@ -22,8 +22,7 @@ pub record PlannedWorld : Type 0 where
 -- what a work is made of: loaded rows by part, and a plan of their script with their cut
 pub record IsWork (w : World) (plan : PlannedScript) : Type 0 where
   pub setting : IsSetting w plan.planned
-  pub script : plan.script ≡ w.script
-  pub cut : plan.cut ≡ w.cut
+  pub source : plan.source ≡ source_of w
 
 -- ---- blocks as contents
 
@@ -49,10 +48,15 @@ IsOfKind kind.Edges (Edges edges) = ⊤
 IsOfKind k (Stopped stop) = ⊤
 IsOfKind _ _ = ⊥
 
--- the block is in the plan, and each value is of the kind of the node of its input, or stopped
+-- each value is of the kind of the node of its input, or stopped
+abbrev pub AreOfKinds : PlannedWorld → BlockId → List Block → Type 0
+AreOfKinds e b values =
+    AllZip (λ c t. IsOfKind (recipe_of_block e.planned c).kind (shown t)) (block_inputs e.planned.lineage b) values
+
+-- the block is in the plan, and if that is one of the world, the values are of the kinds of the inputs
 pub record FitsBlock (e : PlannedWorld) (b : BlockId) (values : List Block) : Type 0 where
   pub block : IsBlock e.planned.lineage b
-  pub inputs : AllZip (λ c t. IsOfKind (recipe_of_block e.planned c).kind (shown t)) (block_inputs e.planned.lineage b) values
+  pub inputs : IsSetting e.world e.planned → AreOfKinds e b values
 
 -- ---- what a block sends
 

@@ -2,9 +2,14 @@
 
 ghost use Rattle.std.specs.Prelude.{◌≡◌, ◌≤◌, ◌-◌, IfOk, None, OnErr, OnOk, get_or, length};
 ghost use Rattle.std.specs.List.{AllByRecursion};
-ghost use Rattle.gx_exec_contents.specs.Worlds.{IsSetting, IsWorld};
+ghost use Rattle.gx_cluster.specs.States.{AreContents};
+ghost use Rattle.gx_cluster_state.specs.Values.{pointed_values};
+ghost use Rattle.gx_exec_contents.specs.BlockContents.{recipe_of_block};
+ghost use Rattle.gx_exec_contents.specs.MadeBlocks.{made_by};
+ghost use Rattle.gx_exec_contents.specs.Worlds.{IsSetting, IsWorld, source_of};
 ghost use Rattle.gx_exec_work.specs.FittingInputs.{contents_of_inputs-fit};
-ghost use Rattle.gx_exec_work.specs.Works.{FitsBlock, IsContentOf, freight_of};
+ghost use Rattle.gx_exec_work.specs.Works.{FitsBlock, IsContentOf, freight_of, shown, shown_blocks};
+ghost use Rattle.gx_lineage.specs.Lineage.{IsBlock, block_inputs};
 ghost use Rattle.gx_plan.specs.PlanInvariant.{IsFrontOf};
 ghost use Rattle.gx_plan.specs.Plans.{IsAdded, empty_plan, with_number};
 ghost use Rattle.gx_plan.specs.StmtNodes.{statement_of};
@@ -77,8 +82,7 @@ impl GraphWork {
 
     /// The plan.
     pub fn plan(&self) -> &Plan
-        ensures script { result.now.script ≡ self.now.world.script }
-        ensures cut { result.now.cut ≡ self.now.world.cut }
+        ensures source { result.now.source ≡ source_of self.now.world }
         ensures planned { result.now.planned ≡ self.now.planned }
     {
         &self.plan
@@ -105,7 +109,7 @@ impl GraphWork {
         requires named { AllByRecursion (IsAdded self.old.planned)
             (named_numbers (statement_of self.old.world.script s)) }
         ensures added { OnOk result (self.new ≡ record self.old {
-          planned = with_number self.old.world.script self.old.planned s;
+          planned = with_number (source_of self.old.world) self.old.planned s;
         }) }
         ensures front { OnOk result (IsFrontOf self.old.planned self.new.planned) }
         ensures unchanged { OnErr result (self.new ≡ self.old) }
@@ -118,7 +122,7 @@ impl GraphWork {
 
 // Tells that a script that is well typed may be run. It does nothing.
 fn may_run(plan: &Plan, loads: &LoadedParts)
-    requires script { plan.now.script ≡ loads.now.script }
+    requires source { plan.now.source ≡ source_of loads.now }
     requires some_parts { 1 ≤ loads.now.parts }
     ensures { IsWorld loads.now }
 {
@@ -140,7 +144,16 @@ impl Work<Block> for GraphWork {
         self.plan.dag()
     }
 
-    fn run(&self, b: BlockId, inputs: &[Rc<Block>]) -> Result<Block, NoMemory> {
+    fn run(&self, b: BlockId, inputs: &[Rc<Block>]) -> Result<Block, NoMemory>
+        requires { FitsBlock self.now b (pointed_values inputs.now) }
+        ensures contents { IsBlock self.now.planned.lineage b
+            → AreContents (IsContentOf self.now) (block_inputs self.now.planned.lineage b)
+            (pointed_values inputs.now)
+            → IfOk result (IsContentOf self.now b) }
+        ensures made { IfOk result (λ t. shown t
+            ≡ made_by self.now.world (recipe_of_block self.now.planned b) b.part
+            (shown_blocks (pointed_values inputs.now))) }
+    {
         self.is_set();
         self.make(b, inputs)
     }

@@ -46,7 +46,7 @@ impl GraphWork {
     }
 
     // The recipe of the node of a block.
-    fn recipe(&self, b: BlockId) -> Recipe
+    pub(crate) fn recipe(&self, b: BlockId) -> Recipe
         requires { IsBlock self.now.planned.lineage b }
         ensures is { result ≡ recipe_of_block self.now.planned b }
         ensures own { IsOwnRecipe self.now.world.script result }
@@ -66,31 +66,39 @@ impl GraphWork {
     }
 
     // Part `part` of a node of this recipe, of inputs that are not stopped.
-    fn make_by(&self, r: Recipe, part: u32, inputs: &[Rc<Block>]) -> Result<Block, NoMemory>
+    pub(crate) fn make_by(
+        &self,
+        r: Recipe,
+        part: u32,
+        inputs: &[Rc<Block>],
+    ) -> Result<Block, NoMemory>
         requires own { IsOwnRecipe self.now.world.script r }
         requires in_range { part < self.now.world.parts }
         ensures { IfOk result (λ t. shown t
-            ≡ made_kind self.now.world r.kind part r.statement
+            ≡ made_kind self.now.world r.kind r part
             (statement_of self.now.world.script r.statement)
             (shown_blocks (pointed_values inputs.now))) }
     {
         match r.kind {
-            Kind::Vertices => self.make_vertices(r.statement, part, inputs),
-            Kind::Edges => self.make_edges(r.statement, part, inputs),
+            Kind::Vertices => self.make_vertices(r, part, inputs),
+            Kind::Edges => self.make_edges(r, part, inputs),
         }
     }
 
-    // Part `part` of the vertices of statement `s`.
-    fn make_vertices(&self, s: u32, part: u32, inputs: &[Rc<Block>]) -> Result<Block, NoMemory>
-        requires from_one { 1 ≤ s }
-        requires within { s ≤ length self.now.world.script }
+    // Part `part` of the vertices of a statement, by their recipe.
+    fn make_vertices(&self, r: Recipe, part: u32, inputs: &[Rc<Block>]) -> Result<Block, NoMemory>
+        requires from_one { 1 ≤ r.statement }
+        requires within { r.statement ≤ length self.now.world.script }
         requires in_range { part < self.now.world.parts }
         ensures { IfOk result (λ t. shown t
-            ≡ made_vertices self.now.world part s (statement_of self.now.world.script s)
+            ≡ made_vertices self.now.world r part
+            (statement_of self.now.world.script r.statement)
             (shown_blocks (pointed_values inputs.now))) }
     {
-        match self.statement(s) {
-            TypedStmt::Vertices { .. } => table_block(self.alloc, self.loads.vertices(s, part)?),
+        match self.statement(r.statement) {
+            TypedStmt::Vertices { .. } => {
+                table_block(self.alloc, self.loads.vertices(r.statement, part)?)
+            }
             TypedStmt::Graph { default, .. } => self.graph(part, inputs, default),
             TypedStmt::FromEdges { row, .. } => {
                 completed(self.alloc, None, inputs, row, part, self.loads.parts())
@@ -109,19 +117,20 @@ impl GraphWork {
         }
     }
 
-    // Part `part` of the edges of statement `s`.
-    fn make_edges(&self, s: u32, part: u32, inputs: &[Rc<Block>]) -> Result<Block, NoMemory>
-        requires from_one { 1 ≤ s }
-        requires within { s ≤ length self.now.world.script }
+    // Part `part` of the edges of a statement, by their recipe.
+    fn make_edges(&self, r: Recipe, part: u32, inputs: &[Rc<Block>]) -> Result<Block, NoMemory>
+        requires from_one { 1 ≤ r.statement }
+        requires within { r.statement ≤ length self.now.world.script }
         requires in_range { part < self.now.world.parts }
         ensures { IfOk result (λ t. shown t
-            ≡ made_kind self.now.world kinds.Edges part s (statement_of self.now.world.script s)
+            ≡ made_kind self.now.world kinds.Edges r part
+            (statement_of self.now.world.script r.statement)
             (shown_blocks (pointed_values inputs.now))) }
     {
         self.is_set();
-        match self.statement(s) {
+        match self.statement(r.statement) {
             TypedStmt::Edges { .. } | TypedStmt::EdgeList { .. } => {
-                edges_block(self.alloc, self.loads.edges(s, part)?)
+                edges_block(self.alloc, self.loads.edges(r.statement, part)?)
             }
             TypedStmt::Partition { cut, .. } => {
                 moved(self.alloc, inputs, *cut, part, self.loads.parts())

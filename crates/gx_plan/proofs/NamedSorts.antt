@@ -15,11 +15,12 @@ use Rattle.gx_types_stmts.specs.declared.sort.Sort.{Sort}
 use Rattle.gx_types_stmts.specs.declared.sort.Sort.TheVariants as sort
 use Rattle.gx_types_stmts.specs.declared.typed_stmt.TypedStmt.{TypedStmt}
 use Rattle.gx_types_stmts.specs.declared.typed_stmt.TypedStmt.TheVariants as stmts
-use Rattle.gx_plan.specs.PlanLaws.{HasSorts, IsEarlierOf, MoveByEnds, MovesByEnds, makes_kind}
-use Rattle.gx_plan.specs.Recipes.{recipe_of}
-use Rattle.gx_plan.specs.StmtNodes.{feeds, feeds_kind, inherits, statement_of}
+use Rattle.gx_plan.specs.PlanLaws.{HasSorts, IsEarlierOf, MoveByEnds, MovesByEnds, ReadsEarlier, makes_kind}
+use Rattle.gx_plan.specs.Recipes.{reads_result}
+use Rattle.gx_plan.specs.StmtNodes.{ScriptWithCut, feeds_kind, inherits, statement_of}
 use Rattle.gx_plan.specs.declared.kind.Kind.{Kind}
 use Rattle.gx_plan.specs.declared.kind.Kind.TheVariants.{Vertices, Edges}
+use Rattle.gx_plan.specs.declared.recipe.Recipe.{Recipe}
 
 -- ---- the kinds of nodes of each sort
 
@@ -75,24 +76,25 @@ run-kinds _ run = cc
 abbrev pub ServesKinds : (Sort × ℕ → Type 0) → (Kind → ℕ → Type 0) → Type 0
 ServesKinds M P = (s : Sort) (u : ℕ) (k : Kind) → sort_has k s ≡ true → M (s, u) → P k u
 
-feeds-sorted : (M : Sort × ℕ → Type 0) (P : Kind → ℕ → Type 0) → ServesKinds M P → (k : Kind) (st : TypedStmt) → AllByRecursion M (named_sorts st) → AllByRecursion (λ f. P f.recipe.kind f.recipe.statement) (feeds_kind k st)
-feeds-sorted M P to Vertices (stmts.Graph t e default) h = (to sort.Table t Vertices refl h.0, (to sort.Edges e Edges refl h.1.0, tt))
-feeds-sorted M P to Vertices (stmts.FromEdges e row) h = (to sort.Edges e Edges refl h.0, tt)
-feeds-sorted M P to Edges (stmts.Reverse g) h = (to sort.Graph g Edges refl h.0, tt)
-feeds-sorted M P to Vertices (stmts.Mask g by) h = (to sort.Graph g Vertices refl h.0, (to sort.Graph by Vertices refl h.1.0, tt))
-feeds-sorted M P to Edges (stmts.Mask g by) h = (to sort.Graph g Edges refl h.0, (to sort.Graph by Edges refl h.1.0, tt))
-feeds-sorted M P to Edges (stmts.Partition g cut) h = (to sort.Graph g Edges refl h.0, tt)
-feeds-sorted M P to Vertices (stmts.MapVertices g sets) h = (to sort.Graph g Vertices refl h.0, tt)
-feeds-sorted M P to Edges (stmts.MapEdges g sets) h = (to sort.Graph g Edges refl h.0, tt)
-feeds-sorted M P to Vertices (stmts.JoinVertices g t sets) h = (to sort.Graph g Vertices refl h.0, (to sort.Table t Vertices refl h.1.0, tt))
-feeds-sorted M P to Vertices (stmts.OuterJoin g t default sets) h = (to sort.Graph g Vertices refl h.0, (to sort.Table t Vertices refl h.1.0, tt))
-feeds-sorted M P to Vertices (stmts.Filter t condition) h = (to sort.Table t Vertices refl h.0, tt)
-feeds-sorted M P to Vertices (stmts.MapValues t sets) h = (to sort.Table t Vertices refl h.0, tt)
-feeds-sorted M P to Vertices (stmts.Minus t u) h = (to sort.Table t Vertices refl h.0, (to sort.Table u Vertices refl h.1.0, tt))
-feeds-sorted M P to Vertices (stmts.Diff t u) h = (to sort.Table t Vertices refl h.0, (to sort.Table u Vertices refl h.1.0, tt))
-feeds-sorted M P to Vertices (stmts.InnerJoin t u sets) h = (to sort.Table t Vertices refl h.0, (to sort.Table u Vertices refl h.1.0, tt))
-feeds-sorted M P to Vertices (stmts.LeftJoin t u default sets) h = (to sort.Table t Vertices refl h.0, (to sort.Table u Vertices refl h.1.0, tt))
-feeds-sorted M P to _ _ h = tt
+feeds-sorted : (M : Sort × ℕ → Type 0) (P : Kind → ℕ → Type 0) → ServesKinds M P → (source : ScriptWithCut) (r : Recipe) (k : Kind) (st : TypedStmt) → AllByRecursion M (named_sorts st)
+    → AllByRecursion (λ f. reads_result f ≡ true → P f.recipe.kind f.recipe.statement) (feeds_kind k st source r)
+feeds-sorted M P to source r Vertices (stmts.Graph t e default) h = ((λ is. to sort.Table t Vertices refl h.0), ((λ is. to sort.Edges e Edges refl h.1.0), tt))
+feeds-sorted M P to source r Vertices (stmts.FromEdges e row) h = ((λ is. to sort.Edges e Edges refl h.0), tt)
+feeds-sorted M P to source r Edges (stmts.Reverse g) h = ((λ is. to sort.Graph g Edges refl h.0), tt)
+feeds-sorted M P to source r Vertices (stmts.Mask g by) h = ((λ is. to sort.Graph g Vertices refl h.0), ((λ is. to sort.Graph by Vertices refl h.1.0), tt))
+feeds-sorted M P to source r Edges (stmts.Mask g by) h = ((λ is. to sort.Graph g Edges refl h.0), ((λ is. to sort.Graph by Edges refl h.1.0), tt))
+feeds-sorted M P to source r Edges (stmts.Partition g cut) h = ((λ is. to sort.Graph g Edges refl h.0), tt)
+feeds-sorted M P to source r Vertices (stmts.MapVertices g sets) h = ((λ is. to sort.Graph g Vertices refl h.0), tt)
+feeds-sorted M P to source r Edges (stmts.MapEdges g sets) h = ((λ is. to sort.Graph g Edges refl h.0), tt)
+feeds-sorted M P to source r Vertices (stmts.JoinVertices g t sets) h = ((λ is. to sort.Graph g Vertices refl h.0), ((λ is. to sort.Table t Vertices refl h.1.0), tt))
+feeds-sorted M P to source r Vertices (stmts.OuterJoin g t default sets) h = ((λ is. to sort.Graph g Vertices refl h.0), ((λ is. to sort.Table t Vertices refl h.1.0), tt))
+feeds-sorted M P to source r Vertices (stmts.Filter t condition) h = ((λ is. to sort.Table t Vertices refl h.0), tt)
+feeds-sorted M P to source r Vertices (stmts.MapValues t sets) h = ((λ is. to sort.Table t Vertices refl h.0), tt)
+feeds-sorted M P to source r Vertices (stmts.Minus t u) h = ((λ is. to sort.Table t Vertices refl h.0), ((λ is. to sort.Table u Vertices refl h.1.0), tt))
+feeds-sorted M P to source r Vertices (stmts.Diff t u) h = ((λ is. to sort.Table t Vertices refl h.0), ((λ is. to sort.Table u Vertices refl h.1.0), tt))
+feeds-sorted M P to source r Vertices (stmts.InnerJoin t u sets) h = ((λ is. to sort.Table t Vertices refl h.0), ((λ is. to sort.Table u Vertices refl h.1.0), tt))
+feeds-sorted M P to source r Vertices (stmts.LeftJoin t u default sets) h = ((λ is. to sort.Table t Vertices refl h.0), ((λ is. to sort.Table u Vertices refl h.1.0), tt))
+feeds-sorted M P to source r _ _ h = tt
 
 inherits-sorted : (M : Sort × ℕ → Type 0) (P : Kind → ℕ → Type 0) → ServesKinds M P → (k : Kind) (st : TypedStmt) (m : ℕ) → inherits k st ≡ Some m → AllByRecursion M (named_sorts st) → P k m
 inherits-sorted M P to Edges (stmts.Graph t e default) m is h = subst (P Edges) (cc is) (to sort.Edges e Edges refl h.1.0)
@@ -132,17 +134,18 @@ taken-sorted script s m Edges None at sorts run from_one is = cc
 taken-sorted script s m k (Some c) at sorts run from_one is =
     inherits-sorted (IsMadeWithin script (s - 1)) (IsEarlierOf script s) (made-earlier script s run from_one) k c.stmt m is (sorts (s - 1) c at)
 
-read-sorted : (script : List CheckedStmt) (s : ℕ) (k : Kind) (o : Option CheckedStmt) → slice_get script (s - 1) ≡ o → HasNamedSorts script → AreRun script → 1 ≤ s
-    → AllByRecursion (λ f. IsEarlierOf script s f.recipe.kind f.recipe.statement) (feeds_kind k (stmt_or_none o))
-read-sorted script s Vertices None at sorts run from_one = tt
-read-sorted script s Edges None at sorts run from_one = tt
-read-sorted script s k (Some c) at sorts run from_one =
-    feeds-sorted (IsMadeWithin script (s - 1)) (IsEarlierOf script s) (made-earlier script s run from_one) k c.stmt (sorts (s - 1) c at)
+read-sorted : (source : ScriptWithCut) (r : Recipe) (k : Kind) (o : Option CheckedStmt) → slice_get source.script (r.statement - 1) ≡ o → HasNamedSorts source.script → AreRun source.script → 1 ≤ r.statement
+    → AllByRecursion (ReadsEarlier source.script r.statement) (feeds_kind k (stmt_or_none o) source r)
+read-sorted source r Vertices None at sorts run from_one = tt
+read-sorted source r Edges None at sorts run from_one = tt
+read-sorted source r k (Some c) at sorts run from_one =
+    let s : ℕ = r.statement in
+    feeds-sorted (IsMadeWithin source.script (s - 1)) (IsEarlierOf source.script s) (made-earlier source.script s run from_one) source r k c.stmt (sorts (s - 1) c at)
 
-pub named-has_sorts : (script : List CheckedStmt) → HasNamedSorts script → AreRun script → HasSorts script
-named-has_sorts script sorts run = record {
-  taken = λ s m k from_one is. taken-sorted script s m k (slice_get script (s - 1)) refl sorts run from_one is;
-  read = λ s k from_one. read-sorted script s k (slice_get script (s - 1)) refl sorts run from_one;
+pub named-has_sorts : (source : ScriptWithCut) → HasNamedSorts source.script → AreRun source.script → HasSorts source
+named-has_sorts source sorts run = record {
+  taken = λ s m k from_one is. taken-sorted source.script s m k (slice_get source.script (s - 1)) refl sorts run from_one is;
+  read = λ r from_one. read-sorted source r r.kind (slice_get source.script (r.statement - 1)) refl sorts run from_one;
 }
 
 -- ---- by the numbers of statements

@@ -1,16 +1,20 @@
 -- Nodes that serve in a plan also serve when more nodes come after them.
-use Rattle.std.proofs.Common.{◌≡◌, ℕ, suc, zero, ◌<◌, List, [], ◌∷◌, ◌++◌, length, Option, Some, None, slice_get, option_map, sym, ap, subst, ◌∙◌, refl, arith}
+use Rattle.std.proofs.Common.{◌≡◌, ℕ, suc, zero, ◌<◌, ◌-◌, true, List, [], ◌∷◌, ◌++◌, length, get_or, Option, Some, None, slice_get, option_map, unwrap_or, sym, ap, subst, ◌∙◌, refl, arith}
 use Rattle.std.specs.List.{AllByRecursion}
 use Rattle.std.specs.Option.{option_to_list}
 use Rattle.std.proofs.lemmas.List.{get_or_append_left, length-append}
 use Rattle.gx_lineage.specs.declared.input.Input.{Input}
 use Rattle.gx_lineage.specs.declared.node_id.NodeId.{NodeId}
 use Rattle.gx_types_stmts.specs.declared.checked_stmt.CheckedStmt.{CheckedStmt}
-use Rattle.gx_plan.specs.PlanInvariant.{AreInputsFor, HasNodeFor, IsNodeFor, Serves, Stands}
+use Rattle.gx_plan.specs.PlanInvariant.{AreInputsFor, HasNodeFor, IsNodeFor, IsUnserved, Owns, Serves, Stands}
 use Rattle.gx_plan.specs.PlanInvariant.AreInputsFor.{end, from, skipped}
-use Rattle.gx_plan.specs.Plans.{Planned, inputs_of, node_of, recipe_at}
+use Rattle.gx_plan.specs.Plans.{Planned, inputs_of, no_nodes, node_in, node_of, node_of_kind, recipe_at}
+use Rattle.gx_plan.specs.Recipes.{is_result}
 use Rattle.gx_plan.specs.declared.feed.Feed.{Feed}
+use Rattle.gx_plan.specs.declared.kind.Kind.{Kind}
+use Rattle.gx_plan.specs.declared.kind.Kind.TheVariants.{Vertices, Edges}
 use Rattle.gx_plan.specs.declared.recipe.Recipe.{Recipe}
+use Rattle.gx_plan.specs.declared.result_nodes.ResultNodes.{ResultNodes}
 
 pub slice_get-front : {A : Type 0} (xs ys : List A) (n : ℕ) → n < length xs → slice_get (xs ++ ys) n ≡ slice_get xs n
 slice_get-front [] ys n h = absurd (omega (arith, h))
@@ -39,6 +43,35 @@ inputs-more script xs more _ _ end = end
 inputs-more script xs more _ _ (from {f = f} {i = i} {fs = fs} {is = is} stands same rest) =
     from (stands-more script xs more f.recipe i.node stands) same (inputs-more script xs more fs is rest)
 inputs-more script xs more _ _ (skipped {fs = fs} {is = is} none rest) = skipped none (inputs-more script xs more fs is rest)
+
+-- ---- results
+
+-- the node of a result, by what is kept of the result
+pub node_of-same : (p q : Planned) (k : Kind) (r : Recipe) → is_result k ≡ true → get_or q.results (r.statement - 1) None ≡ get_or p.results (r.statement - 1) None → node_of_kind k q r ≡ node_of_kind k p r
+node_of-same p q Vertices r is same = ap (λ o. node_in Vertices (unwrap_or o no_nodes)) same
+node_of-same p q Edges r is same = ap (λ o. node_in Edges (unwrap_or o no_nodes)) same
+
+-- and by the nodes of the result
+pub node_of-result : (p : Planned) (k : Kind) (r : Recipe) (o : Option ResultNodes) → is_result k ≡ true → get_or p.results (r.statement - 1) None ≡ o → node_of_kind k p r ≡ node_in k (unwrap_or o no_nodes)
+node_of-result p Vertices r o is at = ap (λ x. node_in Vertices (unwrap_or x no_nodes)) at
+node_of-result p Edges r o is at = ap (λ x. node_in Edges (unwrap_or x no_nodes)) at
+
+-- a node that serves for a recipe of this kind and statement serves for each
+pub serves-each : (script : List CheckedStmt) (k : Kind) (o r made : Recipe) → o.statement ≡ r.statement → Serves script k o made → Serves script k r made
+serves-each script Vertices o r made same h = subst (λ s. Owns script Vertices s made.statement) same h
+serves-each script Edges o r made same h = subst (λ s. Owns script Edges s made.statement) same h
+
+unserved-each : (script : List CheckedStmt) (k : Kind) (o r : Recipe) → o.statement ≡ r.statement → IsUnserved script k o → IsUnserved script k r
+unserved-each script Vertices o r same h = λ owner owns. h owner (subst (λ s. Owns script Vertices s owner) (sym same) owns)
+unserved-each script Edges o r same h = λ owner owns. h owner (subst (λ s. Owns script Edges s owner) (sym same) owns)
+
+pub node-each : (script : List CheckedStmt) (recipes : List Recipe) (o r : Recipe) (n : Option NodeId) → o.kind ≡ r.kind → o.statement ≡ r.statement → IsNodeFor script recipes o n → IsNodeFor script recipes r n
+node-each script recipes o r (Some n) kind same h = record {
+  inside = h.inside;
+  kind = h.kind ∙ kind;
+  serves = serves-each script r.kind o r (recipe_at recipes n.0) same (subst (λ k. Serves script k o (recipe_at recipes n.0)) kind h.serves);
+}
+node-each script recipes o r None kind same h = unserved-each script r.kind o r same (subst (λ k. IsUnserved script k o) kind h)
 
 -- ---- the inputs of a new node
 

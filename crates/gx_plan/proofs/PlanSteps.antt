@@ -1,82 +1,72 @@
 -- The steps by which a statement is added, as the code takes them.
-use Rattle.std.proofs.Common.{◌≡◌, ℕ, ◌<◌, ◌≤◌, ◌+◌, ◌-◌, ◌++◌, List, [], ◌∷◌, length, map, take, None, get_or, sym, ap, ap₂, subst, ◌∙◌, arith}
+use Rattle.std.proofs.Common.{◌≡◌, ℕ, ◌<◌, ◌≤◌, ◌+◌, ◌-◌, ◌++◌, List, [], ◌∷◌, length, take, None, get_or, sym, ap, ap₂, subst, ◌∙◌, arith}
 use Rattle.std.specs.List.{AllByRecursion}
 use Rattle.std.proofs.lemmas.List.{length-append}
 use Rattle.std.proofs.Math.Seq.{take-append_seam}
 use Rattle.gx_lineage.specs.Nodes.{Node}
 use Rattle.gx_types_stmts.specs.StmtNumbers.{named_numbers}
-use Rattle.gx_types_stmts.specs.declared.checked_stmt.CheckedStmt.{CheckedStmt}
-use Rattle.gx_plan.specs.PlanInvariant.{IsFrontOf, IsPlan, MayAdd, MayPush}
-use Rattle.gx_plan.specs.Plans.{IsAdded, Planned, PlannedScript, first_planned, inputs_of, result_of, with_number, with_recipe, with_recipes, with_result}
-use Rattle.gx_plan.specs.Recipes.{node_kind_of, recipe_of}
-use Rattle.gx_plan.specs.StmtNodes.{feeds, own_kinds, statement_of}
-use Rattle.gx_plan.specs.declared.kind.Kind.{Kind}
+use Rattle.gx_plan.specs.PlanInvariant.{IsFrontOf, IsPlan, MayAdd, MayPush, MayPushAll}
+use Rattle.gx_plan.specs.Plans.{IsAdded, Planned, PlannedScript, first_planned, inputs_of, node_kind_by, own_recipes, result_of, with_number, with_recipe, with_recipes, with_result}
+use Rattle.gx_plan.specs.StmtNodes.{ScriptWithCut, feeds, statement_of}
 use Rattle.gx_plan.specs.declared.recipe.Recipe.{Recipe}
 use Rattle.gx_plan.specs.declared.result_nodes.ResultNodes.{ResultNodes}
 use Rattle.gx_plan.proofs.OneNode.{pushed}
-use Rattle.gx_plan.proofs.OneStatement.{added-front, added-plan, each-more, own-may}
+use Rattle.gx_plan.proofs.OneStatement.{added-front, added-plan, own-may}
 
-pub pushed-as : (script other : List CheckedStmt) (p q : Planned) (r : Recipe) → MayPush script p r → other ≡ script → q ≡ with_recipe script p r → IsPlan other q
-pushed-as script other p q r may same is =
-    subst (λ (t : List CheckedStmt). IsPlan t q) (sym same) (subst (IsPlan script) (sym is) (pushed script p r may))
+pub pushed-as : (source other : ScriptWithCut) (p q : Planned) (r : Recipe) → MayPush source p r → other ≡ source → q ≡ with_recipe source p r → IsPlan other q
+pushed-as source other p q r may same is =
+    subst (λ (t : ScriptWithCut). IsPlan t q) (sym same) (subst (IsPlan source) (sym is) (pushed source p r may))
 
-pub rest-may : (w v : PlannedScript) (s : ℕ) (k : Kind) (ks rest : List Kind) → ks ≡ k ∷ rest → v ≡ record w { planned = with_recipe w.script w.planned (recipe_of k s) }
-    → AllByRecursion (MayPush w.script w.planned) (map (λ j. recipe_of j s) ks) → AllByRecursion (MayPush v.script v.planned) (map (λ j. recipe_of j s) rest)
-rest-may w v s k ks rest split is may =
-    let each : AllByRecursion (MayPush w.script w.planned) (map (λ j. recipe_of j s) (k ∷ rest)) = subst (λ (js : List Kind). AllByRecursion (MayPush w.script w.planned) (map (λ j. recipe_of j s) js)) split may in
-    subst (λ (u : PlannedScript). AllByRecursion (MayPush u.script u.planned) (map (λ j. recipe_of j s) rest)) (sym is)
-    (each-more w.script w.planned (recipe_of k s) (map (λ j. recipe_of j s) rest) each.0 each.1)
+-- the first of several recipes, and the others
+split-may : (w : PlannedScript) (r : Recipe) (rs rest : List Recipe) → rs ≡ r ∷ rest → MayPushAll w.source w.planned rs → MayPushAll w.source w.planned (r ∷ rest)
+split-may w r rs rest split may = subst (MayPushAll w.source w.planned) split may
 
-pub rest-room : (w v : PlannedScript) (s : ℕ) (k : Kind) (ks rest : List Kind) (room : ℕ) → ks ≡ k ∷ rest → v ≡ record w { planned = with_recipe w.script w.planned (recipe_of k s) }
-    → length w.planned.lineage.nodes + length ks < room → length v.planned.lineage.nodes + length rest < room
-rest-room w v s k ks rest room split is below =
-    let node : Node = record { kind = node_kind_of k; inputs = inputs_of w.planned (feeds w.script (recipe_of k s)) } in
+pub rest-may : (w v : PlannedScript) (r : Recipe) (rs rest : List Recipe) → rs ≡ r ∷ rest → v ≡ record w { planned = with_recipe w.source w.planned r }
+    → MayPushAll w.source w.planned rs → MayPushAll v.source v.planned rest
+rest-may w v r rs rest split is may =
+    subst (λ (u : PlannedScript). MayPushAll u.source u.planned rest) (sym is) (split-may w r rs rest split may).1
+
+pub rest-room : (w v : PlannedScript) (r : Recipe) (rs rest : List Recipe) (room : ℕ) → rs ≡ r ∷ rest → v ≡ record w { planned = with_recipe w.source w.planned r }
+    → length w.planned.lineage.nodes + length rs < room → length v.planned.lineage.nodes + length rest < room
+rest-room w v r rs rest room split is below =
+    let node : Node = record { kind = node_kind_by w.source r; inputs = inputs_of w.planned (feeds w.source r) } in
     let longer : length v.planned.lineage.nodes ≡ length w.planned.lineage.nodes + 1 =
     ap (λ (u : PlannedScript). length u.planned.lineage.nodes) is ∙ length-append w.planned.lineage.nodes (node ∷ []) in
-    let count : length ks ≡ length (k ∷ rest) = ap length split in
+    let count : length rs ≡ length (r ∷ rest) = ap length split in
     omega (arith, longer, count, below)
 
 -- the node that was added last, taken back
-pub taken-back : (script : List CheckedStmt) (p : Planned) (r : Recipe) → length p.recipes ≡ length p.lineage.nodes → first_planned (length p.lineage.nodes) (with_recipe script p r) ≡ p
-taken-back script p r long =
-    let node : Node = record { kind = node_kind_of r.kind; inputs = inputs_of p (feeds script r) } in
+pub taken-back : (source : ScriptWithCut) (p : Planned) (r : Recipe) → length p.recipes ≡ length p.lineage.nodes → first_planned (length p.lineage.nodes) (with_recipe source p r) ≡ p
+taken-back source p r long =
+    let node : Node = record { kind = node_kind_by source r; inputs = inputs_of p (feeds source r) } in
     let nodes : take (length p.lineage.nodes) (p.lineage.nodes ++ node ∷ []) ≡ p.lineage.nodes = take-append_seam p.lineage.nodes (node ∷ []) in
     let recipes : take (length p.lineage.nodes) (p.recipes ++ r ∷ []) ≡ p.recipes = ap (λ n. take n (p.recipes ++ r ∷ [])) (sym long) ∙ take-append_seam p.recipes (r ∷ []) in
     ap₂ (λ (ns : List Node) (rs : List Recipe). let q : Planned = record p { lineage = record p.lineage { nodes = ns }; recipes = rs } in q) nodes recipes
 
-pub back-plan : (w v : PlannedScript) (n s : ℕ) (k : Kind) (ks rest : List Kind) → ks ≡ k ∷ rest → v ≡ record w { planned = with_recipe w.script w.planned (recipe_of k s) } → n ≡ length w.planned.lineage.nodes
-    → AllByRecursion (MayPush w.script w.planned) (map (λ j. recipe_of j s) ks) → IsPlan v.script (first_planned n v.planned)
-back-plan w v n s k ks rest split is at may =
-    let each : AllByRecursion (MayPush w.script w.planned) (map (λ j. recipe_of j s) (k ∷ rest)) = subst (λ (js : List Kind). AllByRecursion (MayPush w.script w.planned) (map (λ j. recipe_of j s) js)) split may in
-    subst (λ (u : PlannedScript). IsPlan u.script (first_planned n u.planned)) (sym is)
-    (subst (λ (m : ℕ). IsPlan w.script (first_planned m (with_recipe w.script w.planned (recipe_of k s)))) (sym at)
-    (subst (IsPlan w.script) (sym (taken-back w.script w.planned (recipe_of k s) each.0.plan.recipes)) each.0.plan))
-
-pub back-same : (w v u : PlannedScript) (n s : ℕ) (k : Kind) (ks rest : List Kind) → ks ≡ k ∷ rest → v ≡ record w { planned = with_recipe w.script w.planned (recipe_of k s) } → n ≡ length w.planned.lineage.nodes
-    → AllByRecursion (MayPush w.script w.planned) (map (λ j. recipe_of j s) ks) → u ≡ record v { planned = first_planned n v.planned } → u ≡ w
-back-same w v u n s k ks rest split is at may last =
-    let each : AllByRecursion (MayPush w.script w.planned) (map (λ j. recipe_of j s) (k ∷ rest)) = subst (λ (js : List Kind). AllByRecursion (MayPush w.script w.planned) (map (λ j. recipe_of j s) js)) split may in
-    last ∙ ap (λ (x : PlannedScript). let y : PlannedScript = record x { planned = first_planned n x.planned } in y) is
-    ∙ ap (λ (m : ℕ). let y : PlannedScript = record w { planned = first_planned m (with_recipe w.script w.planned (recipe_of k s)) } in y) at
-    ∙ ap (λ (q : Planned). let y : PlannedScript = record w { planned = q } in y) (taken-back w.script w.planned (recipe_of k s) each.0.plan.recipes)
+pub back-plan : (w v : PlannedScript) (n : ℕ) (r : Recipe) (rs rest : List Recipe) → rs ≡ r ∷ rest → v ≡ record w { planned = with_recipe w.source w.planned r } → n ≡ length w.planned.lineage.nodes
+    → MayPushAll w.source w.planned rs → IsPlan v.source (first_planned n v.planned)
+back-plan w v n r rs rest split is at may =
+    let plan : IsPlan w.source w.planned = (split-may w r rs rest split may).0.plan in
+    subst (λ (u : PlannedScript). IsPlan u.source (first_planned n u.planned)) (sym is)
+    (subst (λ (m : ℕ). IsPlan w.source (first_planned m (with_recipe w.source w.planned r))) (sym at)
+    (subst (IsPlan w.source) (sym (taken-back w.source w.planned r plan.recipes)) plan))
 
 -- ---- a whole statement
 
-pub may-add : (script : List CheckedStmt) (p : Planned) (s : ℕ) → IsPlan script p → 1 ≤ s → s ≤ length script → AllByRecursion (IsAdded p) (named_numbers (statement_of script s)) → MayAdd script p s
-may-add script p s plan from_one within named = record { plan = plan; from_one = from_one; within = within; named = named }
+pub may-add : (source : ScriptWithCut) (p : Planned) (s : ℕ) → IsPlan source p → 1 ≤ s → s ≤ length source.script → AllByRecursion (IsAdded p) (named_numbers (statement_of source.script s)) → MayAdd source p s
+may-add source p s plan from_one within named = record { plan = plan; from_one = from_one; within = within; named = named }
 
-pub kinds-may : (script : List CheckedStmt) (p : Planned) (s : ℕ) (ks : List Kind) → MayAdd script p s → ks ≡ own_kinds (statement_of script s) → AllByRecursion (MayPush script p) (map (λ k. recipe_of k s) ks)
-kinds-may script p s ks may is =
-    subst (λ (js : List Kind). AllByRecursion (MayPush script p) (map (λ k. recipe_of k s) js)) (sym is) (own-may script p s may)
+pub recipes-may : (source : ScriptWithCut) (p : Planned) (s : ℕ) (rs : List Recipe) → MayAdd source p s → rs ≡ own_recipes p s (statement_of source.script s) → MayPushAll source p rs
+recipes-may source p s rs may is = subst (MayPushAll source p) (sym is) (own-may source p s may)
 
-pub settled : (w v : PlannedScript) (s : ℕ) (ks : List Kind) (l : ResultNodes) → MayAdd w.script w.planned s → ks ≡ own_kinds (statement_of w.script s)
-    → v ≡ record w { planned = with_recipes w.script w.planned (map (λ k. recipe_of k s) ks) } → l ≡ result_of w.planned (statement_of w.script s) → IsPlan v.script (with_result v.planned s l)
-settled w v s ks l may kinds is found =
-    subst (λ (u : PlannedScript). IsPlan u.script (with_result u.planned s l)) (sym is)
-    (subst (λ (js : List Kind). IsPlan w.script (with_result (with_recipes w.script w.planned (map (λ k. recipe_of k s) js)) s l)) (sym kinds)
-    (subst (λ (m : ResultNodes). IsPlan w.script (with_result (with_recipes w.script w.planned (map (λ k. recipe_of k s) (own_kinds (statement_of w.script s)))) s m)) (sym found)
-    (added-plan w.script w.planned s may)))
+pub settled : (w v : PlannedScript) (s : ℕ) (rs : List Recipe) (l : ResultNodes) → MayAdd w.source w.planned s → rs ≡ own_recipes w.planned s (statement_of w.source.script s)
+    → v ≡ record w { planned = with_recipes w.source w.planned rs } → l ≡ result_of w.planned (statement_of w.source.script s) → IsPlan v.source (with_result v.planned s l)
+settled w v s rs l may own is found =
+    subst (λ (u : PlannedScript). IsPlan u.source (with_result u.planned s l)) (sym is)
+    (subst (λ (os : List Recipe). IsPlan w.source (with_result (with_recipes w.source w.planned os) s l)) (sym own)
+    (subst (λ (m : ResultNodes). IsPlan w.source (with_result (with_recipes w.source w.planned (own_recipes w.planned s (statement_of w.source.script s))) s m)) (sym found)
+    (added-plan w.source w.planned s may)))
 
-pub front-as : (w u : PlannedScript) (s : ℕ) → 1 ≤ s → get_or w.planned.results (s - 1) None ≡ None → u ≡ record w { planned = with_number w.script w.planned s } → IsFrontOf w.planned u.planned
+pub front-as : (w u : PlannedScript) (s : ℕ) → 1 ≤ s → get_or w.planned.results (s - 1) None ≡ None → u ≡ record w { planned = with_number w.source w.planned s } → IsFrontOf w.planned u.planned
 front-as w u s from_one fresh is =
-    subst (λ (x : PlannedScript). IsFrontOf w.planned x.planned) (sym is) (added-front w.script w.planned s from_one fresh)
+    subst (λ (x : PlannedScript). IsFrontOf w.planned x.planned) (sym is) (added-front w.source w.planned s from_one fresh)

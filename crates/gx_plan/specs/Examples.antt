@@ -4,6 +4,7 @@
 --     mapvertices h = g (); filter f = t where true; innerjoin j = t, f ();
 --     mask m = h by g; print edges m;
 use Rattle.std.specs.Prelude.{◌≡◌, ℕ, true, List, [], ◌∷◌, None, Some, map, refl}
+use Rattle.gx_cuts.specs.declared.cut.Cut.TheVariants.{OneD}
 use Rattle.gx_expr.specs.declared.expr.Expr.{roll-Expr}
 use Rattle.gx_expr.specs.declared.expr.Expr.TheOpen as layer
 use Rattle.gx_rows.specs.declared.value.Value.TheVariants.{Bool as Truth}
@@ -15,6 +16,7 @@ use Rattle.gx_types_stmts.specs.declared.typed_stmt.TypedStmt.{TypedStmt}
 use Rattle.gx_types_stmts.specs.declared.typed_stmt.TypedStmt.TheVariants as stmts
 use Rattle.gx_plan.specs.Plans.{Planned, empty_plan, phases_of, result_nodes, with_number}
 use Rattle.gx_plan.specs.Recipes.{recipe_of}
+use Rattle.gx_plan.specs.StmtNodes.{ScriptWithCut}
 use Rattle.gx_plan.specs.declared.kind.Kind.TheVariants.{Vertices, Edges}
 
 checked_as : TypedStmt → CheckedStmt
@@ -26,12 +28,12 @@ eight_statements = map checked_as (
     ∷ stmts.InnerJoin 1 5 [] ∷ stmts.Mask 4 3 ∷ stmts.PrintEdges 7 ∷ []
     )
 
-with_numbers : List CheckedStmt → Planned → List ℕ → Planned
-with_numbers script p [] = p
-with_numbers script p (s ∷ ss) = with_numbers script (with_number script p s) ss
+with_numbers : ScriptWithCut → Planned → List ℕ → Planned
+with_numbers source p [] = p
+with_numbers source p (s ∷ ss) = with_numbers source (with_number source p s) ss
 
 plan_of_eight : Planned
-plan_of_eight = with_numbers eight_statements (empty_plan 2 8) (1 ∷ 2 ∷ 3 ∷ 4 ∷ 5 ∷ 6 ∷ 7 ∷ 8 ∷ [])
+plan_of_eight = with_numbers (record { script = eight_statements; cut = OneD }) (empty_plan 2 8) (1 ∷ 2 ∷ 3 ∷ 4 ∷ 5 ∷ 6 ∷ 7 ∷ 8 ∷ [])
 
 same_part_of : ℕ → Input
 same_part_of n = record { node = record { 0 = n }; pattern = Same }

@@ -4,6 +4,7 @@ ghost use Rattle.std.specs.Prelude.{◌≡◌};
 ghost use Rattle.gx_plan.specs.Recipes as recipes;
 
 use gx_lineage::NodeKind;
+use gx_types::TypedStmt;
 
 /// What the blocks of a planned node hold.
 #[derive(Clone, Copy, Debug, PartialEq, Eq)]
@@ -15,10 +16,11 @@ pub enum Kind {
 }
 
 impl Kind {
-    /// The kind of the node in the lineage.
-    pub(crate) fn node_kind(self) -> NodeKind
-        ensures { result ≡ recipes.node_kind_of self }
+    /// What a node of this kind of a statement is in the lineage.
+    pub(crate) fn node_kind(self, stmt: &TypedStmt) -> NodeKind
+        ensures { result ≡ recipes.node_kind_of self stmt.now }
     {
+        let _ = stmt;
         match self {
             Kind::Vertices => NodeKind::Vertices,
             Kind::Edges => NodeKind::Edges,

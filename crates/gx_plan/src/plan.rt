@@ -1,17 +1,18 @@
 //! The plan of a script.
 
-ghost use Rattle.std.specs.Prelude.{◌≡◌, ◌<◌, ◌≤◌, ◌-◌, IfOk, None, false, get_or, length, map, true};
+ghost use Rattle.std.specs.Prelude.{◌≡◌, ◌<◌, ◌≤◌, ◌-◌, ◌++◌, ◌∷◌, [], IfOk, None, OnOk, false, get_or, length, map, true};
 ghost use Rattle.std.specs.Option.{option_to_list};
 ghost use Rattle.gx_lineage.specs.Lineage.{IsSound};
 ghost use Rattle.gx_types.specs.SoundStmts.{AreRun};
 ghost use Rattle.gx_plan.specs.PlanInvariant.{HasNodeFor, IsPlan};
 ghost use Rattle.gx_plan.specs.PlanLaws.{HasSorts, MoveByEnds};
-ghost use Rattle.gx_plan.specs.Plans.{IsAdded, empty_plan, node_of, phases_of, recipe_at};
+ghost use Rattle.gx_plan.specs.Plans.{IsAdded, empty_plan, node_of, nodes_of, phase_at, phases_of, recipe_at};
 ghost use Rattle.gx_plan.specs.Recipes.{recipe_of};
-ghost use Rattle.gx_plan.specs.StmtNodes.{phase_recipes, statement_of};
+ghost use Rattle.gx_plan.specs.StmtNodes as nodes;
+ghost use Rattle.gx_plan.specs.StmtNodes.{statement_of};
 ghost use Rattle.gx_plan.specs.declared.kind.Kind.TheVariants as kinds;
 
-use crate::stmt_nodes::{demanded_by, own_recipes};
+use crate::stmt_nodes::{demanded_by, own_kinds};
 use crate::{Kind, Recipe, ResultNodes};
 use gx_lineage::{Dag, NodeId};
 use gx_rows::{Cut, NoMemory};
@@ -44,8 +45,7 @@ impl Model for Plan {
     ghost coded = { Prim.hlevel (codes, expr.the_row.coded) };
 
     ghost view = { λ p. record {
-      script = p.typed.value;
-      cut = p.cut;
+      source = record { script = p.typed.value; cut = p.cut };
       planned = record {
         lineage = p.dag;
         recipes = p.recipes.items;
@@ -53,7 +53,7 @@ impl Model for Plan {
       };
     } };
 
-    ghost invariant = { λ p. IsPlan p.typed.value (record {
+    ghost invariant = { λ p. IsPlan (record { script = p.typed.value; cut = p.cut }) (record {
       lineage = p.dag;
       recipes = p.recipes.items;
       results = p.results.items;
@@ -71,8 +71,7 @@ impl Plan {
         requires nonzero { 1 ≤ parts }
         requires within_limit { parts ≤ 64 }
         ensures { IfOk result (λ p. p ≡ record {
-          script = typed.value;
-          cut = cut;
+          source = record { script = typed.value; cut = cut };
           planned = empty_plan parts (length typed.value);
         }) }
     {
@@ -96,14 +95,14 @@ impl Plan {
 
     /// The script.
     pub fn typed(&self) -> &Typed
-        ensures { result.now ≡ self.now.script }
+        ensures { result.now ≡ self.now.source.script }
     {
         &self.typed
     }
 
     /// How the edges of loads are placed.
     pub fn cut(&self) -> Cut
-        ensures { result ≡ self.now.cut }
+        ensures { result ≡ self.now.source.cut }
     {
         self.cut
     }
@@ -113,11 +112,11 @@ impl Plan {
     /// takes over is made by an earlier one, all statements are run, and `partition` places edges by
     /// their ends. It does nothing.
     pub fn nodes_are_fed(&self)
-        ensures plan { IsPlan self.now.script self.now.planned }
+        ensures plan { IsPlan self.now.source self.now.planned }
         ensures sound { IsSound self.now.planned.lineage }
-        ensures sorts { HasSorts self.now.script }
-        ensures run { AreRun self.now.script }
-        ensures by_ends { MoveByEnds self.now.script }
+        ensures sorts { HasSorts self.now.source }
+        ensures run { AreRun self.now.source.script }
+        ensures by_ends { MoveByEnds self.now.source.script }
     {
         let _len = self.dag.len();
         self.typed.statements_are_sound();
@@ -126,7 +125,7 @@ impl Plan {
     /// Whether statement `s`, counted from 1, was added.
     pub fn is_added(&self, s: u32) -> bool
         requires from_one { 1 ≤ s }
-        requires within { s ≤ length self.now.script }
+        requires within { s ≤ length self.now.source.script }
         ensures added { result ≡ true → IsAdded self.now.planned s }
         ensures fresh { result ≡ false → get_or self.now.planned.results (s - 1) None ≡ None }
     {
@@ -146,7 +145,7 @@ impl Plan {
     pub fn vertices_of(&self, s: u32) -> Option<NodeId>
         requires added { IsAdded self.now.planned s }
         ensures node { result ≡ node_of self.now.planned (recipe_of kinds.Vertices s) }
-        ensures owned { HasNodeFor self.now.script self.now.planned (recipe_of kinds.Vertices s) }
+        ensures owned { HasNodeFor self.now.source.script self.now.planned (recipe_of kinds.Vertices s) }
     {
         self.nodes_are_fed();
         self.node(Recipe::of(Kind::Vertices, s))
@@ -156,55 +155,61 @@ impl Plan {
     pub fn edges_of(&self, s: u32) -> Option<NodeId>
         requires added { IsAdded self.now.planned s }
         ensures node { result ≡ node_of self.now.planned (recipe_of kinds.Edges s) }
-        ensures owned { HasNodeFor self.now.script self.now.planned (recipe_of kinds.Edges s) }
+        ensures owned { HasNodeFor self.now.source.script self.now.planned (recipe_of kinds.Edges s) }
     {
         self.nodes_are_fed();
         self.node(Recipe::of(Kind::Edges, s))
     }
 
     /// The target nodes of each phase of a statement, in order: those that it added, each in a phase
-    /// of its own. For an action it is the one demand.
+    /// of its own. For an action it is the one demand. A phase without a node is left out.
     ///
     /// # Errors
     ///
     /// `NoMemory` if memory for the lists runs out.
     pub fn phases(&self, s: u32) -> Result<Vec<Vec<NodeId>>, NoMemory>
         requires from_one { 1 ≤ s }
-        requires within { s ≤ length self.now.script }
+        requires within { s ≤ length self.now.source.script }
         ensures { IfOk result (λ phases. map (λ v. v.items) phases.items
-            ≡ phases_of self.now.script self.now.planned s) }
+            ≡ phases_of self.now.source.script self.now.planned s) }
     {
+        let stmt = self.statement(s);
         let mut phases = Vec::new(self.alloc);
-        for r in &self.phase_recipes(s)? {
-            phases.push(self.targets(*r)?)?;
+        for kind in &own_kinds(self.alloc, stmt)? {
+            let own = self.targets(Some(Recipe::of(*kind, s)))?;
+            push_phase(&mut phases, own)?;
         }
+        push_phase(&mut phases, self.demanded(stmt)?)?;
         Ok(phases)
     }
 
-    // What is demanded for statement `s`, phase by phase.
-    fn phase_recipes(&self, s: u32) -> Result<Vec<Recipe>, NoMemory>
-        requires from_one { 1 ≤ s }
-        requires within { s ≤ length self.now.script }
-        ensures { IfOk result (λ rs. rs.items
-            ≡ phase_recipes s (statement_of self.now.script s)) }
+    // The nodes that an action demands.
+    fn demanded(&self, stmt: &TypedStmt) -> Result<Vec<NodeId>, NoMemory>
+        ensures { IfOk result (λ ns. ns.items
+            ≡ nodes_of self.now.planned (nodes.demanded_by stmt.now)) }
     {
-        let stmt = self.statement(s);
-        let mut recipes = own_recipes(self.alloc, s, stmt)?;
-        if let Some(r) = demanded_by(stmt) {
-            recipes.push(r)?;
-        }
-        Ok(recipes)
+        self.targets(demanded_by(stmt))
     }
 
-    // The node of a recipe as the targets of a phase.
-    fn targets(&self, r: Recipe) -> Result<Vec<NodeId>, NoMemory>
-        ensures { IfOk result (λ ns. ns.items ≡ option_to_list (node_of self.now.planned r)) }
+    // The node of a recipe, if there is one, as the targets of a phase.
+    fn targets(&self, r: Option<Recipe>) -> Result<Vec<NodeId>, NoMemory>
+        ensures { IfOk result (λ ns. ns.items ≡ nodes_of self.now.planned (option_to_list r)) }
     {
         let mut targets = Vec::new(self.alloc);
+        if let Some(r) = r {
+            self.push_target(&mut targets, r)?;
+        }
+        Ok(targets)
+    }
+
+    fn push_target(&self, targets: &mut Vec<NodeId>, r: Recipe) -> Result<(), NoMemory>
+        ensures { OnOk result (targets.new.items
+            ≡ targets.old.items ++ nodes_of self.now.planned (r ∷ [])) }
+    {
         if let Some(node) = self.node(r) {
             targets.push(node)?;
         }
-        Ok(targets)
+        Ok(())
     }
 
     // The node at which a recipe is found.
@@ -220,9 +225,20 @@ impl Plan {
     // Statement `s`.
     pub(crate) fn statement(&self, s: u32) -> &TypedStmt
         requires from_one { 1 ≤ s }
-        requires within { s ≤ length self.now.script }
-        ensures { result.now ≡ statement_of self.now.script s }
+        requires within { s ≤ length self.now.source.script }
+        ensures { result.now ≡ statement_of self.now.source.script s }
     {
         self.typed.statement(s)
     }
+}
+
+// Adds the phase of these nodes, if there are some.
+fn push_phase(phases: &mut Vec<Vec<NodeId>>, targets: Vec<NodeId>) -> Result<(), NoMemory>
+    ensures { OnOk result (map (λ v. v.items) phases.new.items
+        ≡ map (λ v. v.items) phases.old.items ++ phase_at targets.items) }
+{
+    if !targets.is_empty() {
+        phases.push(targets)?;
+    }
+    Ok(())
 }

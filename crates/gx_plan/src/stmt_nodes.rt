@@ -1,12 +1,14 @@
 //! The nodes that each statement adds, what they read, and whose nodes it takes over.
 
-ghost use Rattle.std.specs.Prelude.{◌≡◌, ◌∷◌, [], IfOk};
+ghost use Rattle.std.specs.Prelude.{◌≡◌, ◌≤◌, ◌∷◌, [], IfOk, length};
 ghost use Rattle.std.specs.Option.{option_to_list};
+ghost use Rattle.gx_plan.specs.Plans.{own_recipes};
 ghost use Rattle.gx_plan.specs.Recipes.{same_part};
 ghost use Rattle.gx_plan.specs.StmtNodes as nodes;
+ghost use Rattle.gx_plan.specs.StmtNodes.{statement_of};
 ghost use Rattle.gx_plan.specs.declared.kind.Kind.TheVariants as kinds;
 
-use crate::{Feed, Kind, Recipe};
+use crate::{Feed, Kind, Plan, Recipe};
 use gx_rows::NoMemory;
 use gx_types::TypedStmt;
 use std::alloc::Global;
@@ -38,54 +40,86 @@ pub(crate) fn own_kinds(alloc: Global, stmt: &TypedStmt) -> Result<Vec<Kind>, No
     }
 }
 
-/// The recipes of the nodes that statement `s` adds, in order.
-pub(crate) fn own_recipes(alloc: Global, s: u32, stmt: &TypedStmt) -> Result<Vec<Recipe>, NoMemory>
-    ensures { IfOk result (λ rs. rs.items ≡ nodes.own_recipes s stmt.now) }
-{
-    let mut recipes = Vec::new(alloc);
-    for kind in &own_kinds(alloc, stmt)? {
-        recipes.push(Recipe::of(*kind, s))?;
-    }
-    Ok(recipes)
-}
-
-/// What the own node of this kind reads, input by input.
-pub(crate) fn feeds(alloc: Global, kind: Kind, stmt: &TypedStmt) -> Result<Vec<Feed>, NoMemory>
-    ensures { IfOk result (λ fs. fs.items ≡ nodes.feeds_kind kind stmt.now) }
-{
-    match kind {
-        Kind::Vertices => vertex_feeds(alloc, stmt),
-        Kind::Edges => edge_feeds(alloc, stmt),
-    }
-}
-
-fn vertex_feeds(alloc: Global, stmt: &TypedStmt) -> Result<Vec<Feed>, NoMemory>
-    ensures { IfOk result (λ fs. fs.items ≡ nodes.feeds_kind kinds.Vertices stmt.now) }
-{
-    match stmt {
-        TypedStmt::Graph {
-            vertices,
-            edges,
-            ..
-        } => {
-            let vertices = Feed::same_part(Kind::Vertices, *vertices);
-            let edges = Feed::each_part(Kind::Edges, *edges);
-            Ok(vec![in alloc; vertices, edges]?)
+impl Plan {
+    /// The recipes of the nodes that statement `s` adds, in order.
+    pub(crate) fn own_recipes(&self, s: u32) -> Result<Vec<Recipe>, NoMemory>
+        requires from_one { 1 ≤ s }
+        requires within { s ≤ length self.now.source.script }
+        ensures { IfOk result (λ rs. rs.items
+            ≡ own_recipes self.now.planned s (statement_of self.now.source.script s)) }
+    {
+        let mut recipes = Vec::new(self.alloc);
+        for kind in &own_kinds(self.alloc, self.statement(s))? {
+            recipes.push(Recipe::of(*kind, s))?;
         }
-        TypedStmt::FromEdges { edges, .. } => {
-            Ok(vec![in alloc; Feed::each_part(Kind::Edges, *edges)]?)
+        Ok(recipes)
+    }
+
+    /// What a node of this recipe reads, input by input.
+    pub(crate) fn feeds(&self, r: Recipe) -> Result<Vec<Feed>, NoMemory>
+        requires from_one { 1 ≤ r.statement }
+        requires within { r.statement ≤ length self.now.source.script }
+        ensures { IfOk result (λ fs. fs.items ≡ nodes.feeds self.now.source r) }
+    {
+        match r.kind {
+            Kind::Vertices => self.vertex_feeds(r),
+            Kind::Edges => self.edge_feeds(r),
         }
-        TypedStmt::MapVertices { graph, .. } => one_table(alloc, *graph),
-        TypedStmt::Mask { graph, by } => two_tables(alloc, *graph, *by),
-        TypedStmt::JoinVertices { graph, table, .. } => two_tables(alloc, *graph, *table),
-        TypedStmt::OuterJoin { graph, table, .. } => two_tables(alloc, *graph, *table),
-        TypedStmt::Filter { table, .. } => one_table(alloc, *table),
-        TypedStmt::MapValues { table, .. } => one_table(alloc, *table),
-        TypedStmt::Minus { table, other } => two_tables(alloc, *table, *other),
-        TypedStmt::Diff { table, other } => two_tables(alloc, *table, *other),
-        TypedStmt::InnerJoin { table, other, .. } => two_tables(alloc, *table, *other),
-        TypedStmt::LeftJoin { table, other, .. } => two_tables(alloc, *table, *other),
-        _ => Ok(Vec::new(alloc)),
+    }
+
+    fn vertex_feeds(&self, r: Recipe) -> Result<Vec<Feed>, NoMemory>
+        requires from_one { 1 ≤ r.statement }
+        requires within { r.statement ≤ length self.now.source.script }
+        ensures { IfOk result (λ fs. fs.items ≡ nodes.feeds_kind kinds.Vertices
+            (statement_of self.now.source.script r.statement) self.now.source r) }
+    {
+        match self.statement(r.statement) {
+            TypedStmt::Graph {
+                vertices,
+                edges,
+                ..
+            } => {
+                let vertices = Feed::same_part(Kind::Vertices, *vertices);
+                let edges = Feed::each_part(Kind::Edges, *edges);
+                Ok(vec![in self.alloc; vertices, edges]?)
+            }
+            TypedStmt::FromEdges { edges, .. } => {
+                Ok(vec![in self.alloc; Feed::each_part(Kind::Edges, *edges)]?)
+            }
+            TypedStmt::MapVertices { graph, .. } => one_table(self.alloc, *graph),
+            TypedStmt::Mask { graph, by } => two_tables(self.alloc, *graph, *by),
+            TypedStmt::JoinVertices { graph, table, .. } => two_tables(self.alloc, *graph, *table),
+            TypedStmt::OuterJoin { graph, table, .. } => two_tables(self.alloc, *graph, *table),
+            TypedStmt::Filter { table, .. } => one_table(self.alloc, *table),
+            TypedStmt::MapValues { table, .. } => one_table(self.alloc, *table),
+            TypedStmt::Minus { table, other } => two_tables(self.alloc, *table, *other),
+            TypedStmt::Diff { table, other } => two_tables(self.alloc, *table, *other),
+            TypedStmt::InnerJoin { table, other, .. } => two_tables(self.alloc, *table, *other),
+            TypedStmt::LeftJoin { table, other, .. } => two_tables(self.alloc, *table, *other),
+            _ => Ok(Vec::new(self.alloc)),
+        }
+    }
+
+    fn edge_feeds(&self, r: Recipe) -> Result<Vec<Feed>, NoMemory>
+        requires from_one { 1 ≤ r.statement }
+        requires within { r.statement ≤ length self.now.source.script }
+        ensures { IfOk result (λ fs. fs.items ≡ nodes.feeds_kind kinds.Edges
+            (statement_of self.now.source.script r.statement) self.now.source r) }
+    {
+        match self.statement(r.statement) {
+            TypedStmt::Reverse { graph } | TypedStmt::MapEdges { graph, .. } => {
+                Ok(vec![in self.alloc; Feed::same_part(Kind::Edges, *graph)]?)
+            }
+            TypedStmt::Partition { graph, .. } => {
+                Ok(vec![in self.alloc; Feed::each_part(Kind::Edges, *graph)]?)
+            }
+            TypedStmt::Mask { graph, by } => {
+                let kept = Feed::same_part(Kind::Edges, *graph);
+                let by = Feed::each_part(Kind::Edges, *by);
+                Ok(vec![in self.alloc; kept, by]?)
+            }
+            _ => Ok(Vec::new(self.alloc)),
+        }
     }
 }
 
@@ -104,25 +138,6 @@ fn two_tables(alloc: Global, table: u32, other: u32) -> Result<Vec<Feed>, NoMemo
     let table = Feed::same_part(Kind::Vertices, table);
     let other = Feed::same_part(Kind::Vertices, other);
     Ok(vec![in alloc; table, other]?)
-}
-
-fn edge_feeds(alloc: Global, stmt: &TypedStmt) -> Result<Vec<Feed>, NoMemory>
-    ensures { IfOk result (λ fs. fs.items ≡ nodes.feeds_kind kinds.Edges stmt.now) }
-{
-    match stmt {
-        TypedStmt::Reverse { graph } | TypedStmt::MapEdges { graph, .. } => {
-            Ok(vec![in alloc; Feed::same_part(Kind::Edges, *graph)]?)
-        }
-        TypedStmt::Partition { graph, .. } => {
-            Ok(vec![in alloc; Feed::each_part(Kind::Edges, *graph)]?)
-        }
-        TypedStmt::Mask { graph, by } => {
-            let kept = Feed::same_part(Kind::Edges, *graph);
-            let by = Feed::each_part(Kind::Edges, *by);
-            Ok(vec![in alloc; kept, by]?)
-        }
-        _ => Ok(Vec::new(alloc)),
-    }
 }
 
 /// The statement whose node of this kind a statement takes over, if it does.

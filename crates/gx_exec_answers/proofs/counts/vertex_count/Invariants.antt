@@ -6,7 +6,7 @@ use Rattle.gx_exec_answers.proofs.counts.vertex_count.Given as goal
 abbrev pub invariant-loop-rest : goal.invariant-loop-rest
 invariant-loop-rest l = record {
   so_far : l.count + length (vertices_in_parts l.rest) ≡ length (vertices_in_parts l.parts);
-  few : l.count + length l.rest * 2 ^ 32 ≤ 64 * 2 ^ 32;
+  few : l.count + length l.rest * 2 ^ 32 ≤ 128 * 2 ^ 32;
 }
 
 abbrev pub decreases-loop-rest : goal.decreases-loop-rest

@@ -11,8 +11,8 @@ use Rattle.gx_exec_work.proofs.graph_work.GraphWork.make_by.Goals as goal
 pub returns-in-Vertices : goal.returns-in-Vertices
 returns-in-Vertices c =
     let w = c.args.self.now.world in
-    let s = c.args.r.statement in
-    let st = statement_of w.script s in
+    let r = c.args.r in
+    let st = statement_of w.script r.statement in
     let contents = shown_blocks (pointed_values c.args.inputs.now) in
-    IfOk-weaker c.make_vertices.result (λ t. shown t ≡ made_vertices w c.args.part s st contents) (λ t. shown t ≡ made_kind w c.args.r.kind c.args.part s st contents)
-    (λ t e. e ∙ made_vertices-kind w c.args.part s st contents ∙ ap (λ k. made_kind w k c.args.part s st contents) (sym c.in-Vertices.is)) c.make_vertices.ensures
+    IfOk-weaker c.make_vertices.result (λ t. shown t ≡ made_vertices w r c.args.part st contents) (λ t. shown t ≡ made_kind w r.kind r c.args.part st contents)
+    (λ t e. e ∙ made_vertices-kind w r c.args.part st contents ∙ ap (λ k. made_kind w k r c.args.part st contents) (sym c.in-Vertices.is)) c.make_vertices.ensures

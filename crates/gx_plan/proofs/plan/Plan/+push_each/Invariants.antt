@@ -2,4 +2,4 @@ use Rattle.std.proofs.Common.{length}
 use Rattle.gx_plan.proofs.plan.Plan.+push_each.Given as goal
 
 abbrev pub decreases-push_each : goal.decreases-push_each
-decreases-push_each l = length l.kinds.now
+decreases-push_each l = length l.recipes.now

@@ -1,10 +1,10 @@
 use Rattle.std.proofs.Common.{rules}
-use Rattle.gx_plan.proofs.PlanSteps.{front-as, kinds-may, may-add, settled}
+use Rattle.gx_plan.proofs.PlanSteps.{front-as, may-add, recipes-may, settled}
 use Rattle.gx_plan.proofs.plan.Plan.extend.Goals as goal
 
 pub push_each-requires-clause-may : goal.push_each-requires-clause-may
 push_each-requires-clause-may c =
-    kinds-may c.args.self.now.script c.args.self.now.planned c.args.s c.as_slice-2.result.now (may-add _ _ _ c.nodes_are_fed.ensures.plan c.requires.from_one c.requires.within c.requires.named) (search rules)
+    recipes-may c.args.self.now.source c.args.self.now.planned c.args.s c.as_slice-2.result.now (may-add _ _ _ c.nodes_are_fed.ensures.plan c.requires.from_one c.requires.within c.requires.named) (search rules)
 
 pub set_result-requires-clause-plan : goal.set_result-requires-clause-plan
 set_result-requires-clause-plan c =

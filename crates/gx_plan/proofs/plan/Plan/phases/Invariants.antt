@@ -1,8 +1,10 @@
-use Rattle.std.proofs.Common.{◌≡◌, map, take}
-use Rattle.std.specs.Option.{option_to_list}
-use Rattle.gx_plan.specs.Plans.{node_of}
+use Rattle.std.proofs.Common.{◌≡◌, [], ◌∷◌, map, take}
+use Rattle.std.specs.List.{flat_map}
+use Rattle.gx_plan.specs.Plans.{nodes_of, phase_at}
+use Rattle.gx_plan.specs.Recipes.{recipe_of}
 use Rattle.gx_plan.proofs.plan.Plan.phases.Given as goal
 
--- the targets of the phases so far
-abbrev pub invariant-loop-r : goal.invariant-loop-r
-invariant-loop-r l = map (λ v. v.items) l.phases.items ≡ map (λ r. option_to_list (node_of l.self.planned r)) (take l.r-index l.r-items)
+-- the phases of the nodes of the kinds so far
+abbrev pub invariant-loop-kind : goal.invariant-loop-kind
+invariant-loop-kind l =
+    map (λ v. v.items) l.phases.items ≡ flat_map (λ k. phase_at (nodes_of l.self.planned (recipe_of k l.s ∷ []))) (take l.kind-index l.kind-items)

@@ -1,6 +1,6 @@
 use Rattle.std.proofs.Common.{◌≡◌, map, take}
 use Rattle.gx_plan.specs.Recipes.{recipe_of}
-use Rattle.gx_plan.proofs.stmt_nodes.own_recipes.Given as goal
+use Rattle.gx_plan.proofs.plan.Plan.own_recipes.Given as goal
 
 -- the recipes of the kinds so far
 abbrev pub invariant-loop-kind : goal.invariant-loop-kind
