@@ -6,7 +6,7 @@ use Rattle.std.specs.Map.{lookup}
 use Rattle.std.proofs.lemmas.Bool.Decides.{nat_tests}
 use Rattle.std.proofs.lemmas.List.Elements.{All-from_recursion}
 use Rattle.gx_cluster.specs.States.{State, held_value, shape}
-use Rattle.gx_cluster.proofs.ShapeOf.{is_held-shape}
+use Rattle.gx_cluster.specs.ShapeLaws.{is_held-shape}
 use Rattle.gx_cluster_state.specs.Blocks.{same_block}
 use Rattle.gx_cluster_state.specs.Shapes.{is_held}
 use Rattle.gx_cluster_state.specs.declared.held.Held.{Held}

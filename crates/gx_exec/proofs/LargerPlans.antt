@@ -5,13 +5,13 @@ use Rattle.std.specs.List.{AllZip}
 use Rattle.std.proofs.lemmas.List.{length-append}
 use Rattle.std.proofs.lemmas.List.Elements.{All-weaker}
 use Rattle.gx_cluster.specs.States.{State, shape}
-use Rattle.gx_cluster.proofs.StateChanges.{runs_in}
+use Rattle.gx_cluster.specs.StateLaws.{runs_in}
 use Rattle.gx_cluster_state.specs.Nets.{net_of}
 use Rattle.gx_cluster_state.specs.Runs.{Grows}
 use Rattle.gx_cluster_state.specs.Turns.{Turns}
 use Rattle.gx_cluster_state.specs.Turns.Turns.{ended}
 use Rattle.gx_cluster_state.specs.declared.event.Event.{Event}
-use Rattle.gx_cluster_state.proofs.LargerNets.{turns_up}
+use Rattle.gx_cluster_state.specs.LargerNetLaws.{turns_up}
 use Rattle.gx_lineage.specs.Lineage.{IsBlock, block_inputs}
 use Rattle.gx_lineage.specs.declared.block_id.BlockId.{BlockId}
 use Rattle.gx_plan.specs.PlanInvariant.{IsFrontOf}

@@ -5,7 +5,7 @@ use Rattle.std.specs.Map.{lookup}
 use Rattle.std.specs.Option.{option_to_list}
 use Rattle.std.proofs.lemmas.List.Sorted.{IsPermutation-refl}
 use Rattle.gx_cluster.specs.States.{HoldsContents, State, held_value, shape}
-use Rattle.gx_cluster.proofs.ShapeOf.{is_held-shape}
+use Rattle.gx_cluster.specs.ShapeLaws.{is_held-shape}
 use Rattle.gx_cluster_state.specs.Blocks.{same_block}
 use Rattle.gx_cluster_state.specs.Shapes.{all_held, is_held}
 use Rattle.gx_cluster_state.specs.declared.held.Held.{Held}

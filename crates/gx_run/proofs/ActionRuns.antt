@@ -6,7 +6,7 @@ use Rattle.std.specs.List.{concat, range_with_len}
 use Rattle.std.proofs.Math.Seq.{take-append-add}
 use Rattle.std.proofs.lemmas.List.{take-append-le}
 use Rattle.std.proofs.lemmas.List.Folds.{concat-append}
-use Rattle.gx_cluster_state.proofs.Positions.{slice_get-below}
+use Rattle.gx_cluster_state.specs.PositionLaws.{slice_get-below}
 use Rattle.gx_cluster_state.specs.Runs.{Command, Point}
 use Rattle.gx_exec.specs.Courses.{Course, EndsAs, PassesAs, and_then, answered, answered_all, joined, still}
 use Rattle.gx_exec.specs.Engines.{action_answer}
