@@ -15,7 +15,7 @@ use Rattle.gx_index.specs.Ids.{IsAscending, id_cmp, id_cmp-total}
 use Rattle.gx_model.specs.Graphs.{Vertex, first_row_of}
 use Rattle.gx_model.specs.StmtFaults.{KeyFault, fault_on_vertex, faults_on_vertices, key_fault_if, least_fault}
 use Rattle.gx_model.specs.Values.{join_row_result, vertex_row_result, vertex_test_result, vertices_in_both}
-use Rattle.gx_model.proofs.LeastFaults.{least_fault-first}
+use Rattle.gx_model.specs.LeastFaultLaws.{least_fault-first}
 use Rattle.gx_plan.specs.StmtNodes.{statement_of}
 use Rattle.gx_plan.specs.declared.kind.Kind.{Kind}
 use Rattle.gx_plan.specs.declared.kind.Kind.TheVariants as kind

@@ -14,7 +14,7 @@ use Rattle.gx_gops.specs.Moving.{edges_placed_in}
 use Rattle.gx_gops.specs.Tables.{both_ends, default_rows, ends_in_part, is_in_part, table_of}
 use Rattle.gx_model.specs.Graphs.{Vertex, ends_in_edges, placed_anew, plain_edges, table_of_rows}
 use Rattle.gx_model.specs.Values.{value_of_stmt, vertices_loaded}
-use Rattle.gx_model.proofs.Tables.{table_of_rows-defaults, with_default}
+use Rattle.gx_model.specs.TableLaws.{table_of_rows-defaults, with_default}
 use Rattle.gx_plan.specs.PlanInvariant.{is_own}
 use Rattle.gx_plan.specs.StmtNodes.{feeds_kind}
 use Rattle.gx_plan.specs.declared.feed.Feed.{Feed}

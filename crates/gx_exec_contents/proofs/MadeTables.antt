@@ -17,7 +17,7 @@ use Rattle.gx_index.specs.Ids.{IsAscending, id_cmp}
 use Rattle.gx_model.specs.Graphs.{Vertex, first_row_of, vertex_if}
 use Rattle.gx_model.specs.StmtFaults.{faults_on_vertices, key_fault_if, least_fault}
 use Rattle.gx_model.specs.Values.{columns_beside, columns_of_vertex, filtered_vertices, id_of_vertex, inner_joined_vertices, is_other_row, join_row_result, left_joined_vertices, mapped_vertices, values_beside, vertex_row_result, vertex_test_result, vertex_values, vertices_diff, vertices_in_both, vertices_minus, vertices_with_rows}
-use Rattle.gx_model.proofs.LeastFaults.{least_fault-first}
+use Rattle.gx_model.specs.LeastFaultLaws.{least_fault-first}
 use Rattle.gx_vpart.specs.Operators.{diff, inner_join, is_changed, left_join, minus, row_at, with_partner}
 use Rattle.gx_vtable.specs.Kernels.{earliest_fault, fault_if, faults_at, rows_made}
 use Rattle.gx_vtable.specs.NewRows.{columns_at_vertex, columns_in_join, id_at_vertex, inner_row, join_id, left_row, mapped_row, test_result, values_at_vertex, values_in_join, vertex_id}

@@ -11,7 +11,7 @@ use Rattle.std.proofs.lemmas.List.Sorted.{IsPermutation-append, IsPermutation-co
 use Rattle.gx_cuts.specs.Places.{place_of}
 use Rattle.gx_cuts.specs.declared.cut.Cut.{Cut}
 use Rattle.gx_epart.specs.Edges.{edge_order_of, with_edge}
-use Rattle.gx_epart.proofs.Unique.{IsEdgeOrderOf-unique}
+use Rattle.gx_epart.specs.UniqueLaws.{IsEdgeOrderOf-unique}
 use Rattle.gx_gops.specs.Moving.{edges_placed_in, is_placed_in}
 use Rattle.gx_model.specs.Graphs.{placed_anew, plain_edges}
 use Rattle.gx_rows.specs.Order.{Edge, edge_cmp, edge_cmp-total}

@@ -12,8 +12,8 @@ use Rattle.gx_cuts.specs.declared.cut.Cut.TheVariants.{OneD, TwoD, Random, Canon
 use Rattle.gx_index.specs.Ids.{IsAscending}
 use Rattle.gx_model.specs.Graphs.{Graph, Placement, ends_in_edges, first_row_of, placed_anew, placed_from, plain_edges}
 use Rattle.gx_model.specs.Values.{LoadedRows, is_other_row, join_row_result, rows_loaded, value_named, value_of_stmt, values_of_stmts, vertex_row_result, vertex_test_result, vertices_in_both, vertices_loaded}
-use Rattle.gx_model.proofs.Tables.{IsAscending-table, with_default}
-use Rattle.gx_model.proofs.ValueOfStatement.{names_are_earlier, value_named-stmt}
+use Rattle.gx_model.specs.TableLaws.{IsAscending-table, with_default}
+use Rattle.gx_model.specs.StatementValueLaws.{names_are_earlier, value_named-stmt}
 use Rattle.gx_plan.specs.PlanInvariant.{Owns}
 use Rattle.gx_plan.specs.PlanInvariant.Owns.{own, taken}
 use Rattle.gx_plan.specs.StmtNodes.{inherits, statement_of}

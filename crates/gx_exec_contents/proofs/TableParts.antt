@@ -11,7 +11,7 @@ use Rattle.gx_rows.specs.declared.value.Value.{Value}
 use Rattle.gx_rows.specs.declared.vid.Vid.{Vid}
 use Rattle.gx_index.specs.Ids.{IsAscending, id_cmp, id_cmp-exact, is_same_id}
 use Rattle.gx_model.specs.Graphs.{Vertex, first_row_of, table_of_rows, vertex_if}
-use Rattle.gx_model.proofs.Tables.{IsAscending-table, first_row_of-table, table_from_look_ups, with_default}
+use Rattle.gx_model.specs.TableLaws.{IsAscending-table, first_row_of-table, table_from_look_ups, with_default}
 use Rattle.gx_gops.specs.Tables.{is_in_part, table_of}
 use Rattle.gx_gops.specs.TableLaws.{table_of-unique}
 use Rattle.gx_exec_contents.specs.PartContents.{part_of_vertices}

@@ -5,7 +5,7 @@ use Rattle.gx_model.specs.Graphs.{Graph, plain_edges, without_places}
 use Rattle.gx_model.specs.ScriptMeaning.{plain_values}
 use Rattle.gx_model.specs.StmtFaults.{fault_of_stmt}
 use Rattle.gx_model.specs.Values.{value_named}
-use Rattle.gx_model.proofs.WithoutPlaces.{answer-without_places, fault-without_places, named-without_places, plain-placed_anew, script-without_places}
+use Rattle.gx_model.specs.PlaceLaws.{answer-without_places, fault-without_places, named-without_places, plain-placed_anew, script-without_places}
 use Rattle.gx_exec_contents.specs.PlainValues.{AnswersArePlain, FaultsArePlain, ListsArePlain, ValuesArePlain}
 use Rattle.gx_exec_contents.specs.Worlds.{World, loaded_in, placed_values, places_in, stmts_of, value_in}
 

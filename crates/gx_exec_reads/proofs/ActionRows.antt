@@ -5,8 +5,8 @@ use Rattle.std.specs.Option.{option_and_then, option_to_list}
 use Rattle.std.proofs.lemmas.List.{length-map}
 use Rattle.gx_cluster.specs.States.{HoldsContents, State, shape}
 use Rattle.gx_cluster_state.specs.Shapes.{all_held}
-use Rattle.gx_epart.proofs.Unique.{IsEdgeOrderOf-unique}
-use Rattle.gx_exec_answers.proofs.AnswersOfParts.{count_answer-of_parts, edges_answer-of_parts, vertices_answer-of_parts}
+use Rattle.gx_epart.specs.UniqueLaws.{IsEdgeOrderOf-unique}
+use Rattle.gx_exec_answers.specs.PartAnswerLaws.{count_answer-of_parts, edges_answer-of_parts, vertices_answer-of_parts}
 use Rattle.gx_exec_contents.proofs.EqualEdges.{edge_cmp-exact}
 use Rattle.gx_exec_contents.proofs.StatementValues.{value-placed}
 use Rattle.gx_exec_contents.proofs.ValuesWithoutPlaces.{answers-are_plain}

@@ -9,9 +9,9 @@ use Rattle.gx_cluster.specs.ShapeLaws.{is_held-shape}
 use Rattle.gx_cluster_state.specs.Blocks.{same_block}
 use Rattle.gx_cluster_state.specs.Shapes.{all_held, is_held}
 use Rattle.gx_cluster_state.specs.declared.held.Held.{Held}
-use Rattle.gx_epart.proofs.Unique.{IsEdgeOrderOf-unique}
+use Rattle.gx_epart.specs.UniqueLaws.{IsEdgeOrderOf-unique}
 use Rattle.gx_epart.specs.Edges.{edge_order_of}
-use Rattle.gx_exec_answers.proofs.AnswersOfParts.{edges-of_ordered_parts}
+use Rattle.gx_exec_answers.specs.PartAnswerLaws.{edges-of_ordered_parts}
 use Rattle.gx_exec_contents.proofs.EqualEdges.{edge_cmp-exact}
 use Rattle.gx_exec_contents.proofs.JoinedParts.{edges-are_their_parts, table-is_its_parts}
 use Rattle.gx_exec_contents.proofs.StatementValues.{owned-value, value-placed}

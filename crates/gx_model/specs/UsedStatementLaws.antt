@@ -10,7 +10,7 @@ use Rattle.gx_types.specs.Needs.{AreNeeded, IsNeeded, UseEarlier, direct, throug
 use Rattle.gx_types_stmts.specs.KnownNames.{IsEarlier}
 use Rattle.gx_types_stmts.specs.declared.checked_stmt.CheckedStmt.{CheckedStmt}
 use Rattle.gx_model.specs.NamesUsed.{stmts_used, stmts_wanted}
-use Rattle.gx_model.proofs.NumberLists.{Ascends, Ascends-append, Ascends-from_adjacent, IsIn, all_append, all_at, all_map, among_from_in, in_either, in_from_among, in_from_any, in_left, in_right, not_in_from_any, same_ascending}
+use Rattle.gx_model.specs.NumberListLaws.{Ascends, Ascends-append, Ascends-from_adjacent, IsIn, all_append, all_at, all_map, among_from_in, in_either, in_from_among, in_from_any, in_left, in_right, not_in_from_any, same_ascending}
 
 pub item_at : {X : Type 0} (xs : List X) (i : ℕ) → i < length xs → (x : X) × (slice_get xs i ≡ Some x)
 item_at [] i within = absurd (omega arith)

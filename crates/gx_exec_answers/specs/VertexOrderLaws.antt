@@ -14,9 +14,9 @@ use Rattle.gx_rows.specs.declared.value.Value.{Value}
 use Rattle.gx_rows.specs.declared.vid.Vid.{Vid}
 use Rattle.gx_index.specs.Ids.{HasDistinctIds, HasDistinctIds-IsPermutation, HasDistinctIds-from_ascending, IsAscending, IsAscending-from_sorted, id_cmp, id_cmp-exact, id_cmp-total, is_same_id}
 use Rattle.gx_model.specs.Graphs.{Vertex, first_row_of}
-use Rattle.gx_model.proofs.Ordered.{same_entries}
+use Rattle.gx_model.specs.TableOrderLaws.{same_entries}
 use Rattle.gx_exec_answers.specs.VertexOrder.{id_order_of, with_vertex}
-use Rattle.gx_exec_answers.proofs.StableOrder.{IsPermutation-order_of, IsSortedBy-order_of, order_of, order_of-unique, with_item}
+use Rattle.gx_exec_answers.specs.StableOrderLaws.{IsPermutation-order_of, IsSortedBy-order_of, order_of, order_of-unique, with_item}
 
 -- ---- items that are seen as vertices
 

@@ -11,7 +11,7 @@ use Rattle.gx_types_stmts.specs.declared.typed_stmt.TypedStmt.TheVariants as stm
 use Rattle.gx_model.specs.Graphs.{Graph, Placement, graph_of, placed_anew, table_value}
 use Rattle.gx_types_stmts.specs.StmtNumbers.{named_numbers}
 use Rattle.gx_model.specs.Values.{LoadedRows, filtered_vertices, inner_joined_vertices, left_joined_vertices, mapped_vertices, value_named, value_of_stmt, values_of_stmts, values_of_script, vertices_diff, vertices_minus}
-use Rattle.gx_model.proofs.NumberLists.{all_map}
+use Rattle.gx_model.specs.NumberListLaws.{all_map}
 
 slice_get-append : {X : Type 0} (xs ys : List X) (i : ℕ) → i < length xs → slice_get (xs ++ ys) i ≡ slice_get xs i
 slice_get-append [] ys i within = absurd (omega arith)

@@ -10,8 +10,8 @@ use Rattle.gx_model.specs.ActionAnswers.{count_answer, edges_answer, vertices_an
 use Rattle.gx_model.specs.Graphs.{Vertex}
 use Rattle.gx_exec_answers.specs.AnswerRows.{rows_of_edges}
 use Rattle.gx_exec_answers.specs.VertexOrder.{id_order_of}
-use Rattle.gx_exec_answers.proofs.EdgeOrders.{IsPermutation-ordered_parts, edge_order_of-IsPermutation}
-use Rattle.gx_exec_answers.proofs.VertexOrders.{id_order_of-ascending}
+use Rattle.gx_exec_answers.specs.EdgeOrderLaws.{IsPermutation-ordered_parts, edge_order_of-IsPermutation}
+use Rattle.gx_exec_answers.specs.VertexOrderLaws.{id_order_of-ascending}
 
 -- the vertices of a table, in any order
 pub vertices_answer-of_parts : (columns : Option (List Column)) (vertices all : List Vertex) → IsAscending (keys_of vertices) → IsPermutation vertices all

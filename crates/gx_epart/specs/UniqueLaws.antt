@@ -11,7 +11,7 @@ use Rattle.std.proofs.lemmas.List.Sorted.{sum_by-IsPermutation}
 use Rattle.std.proofs.lemmas.List.Sums.{sum_by-cons}
 use Rattle.gx_rows.specs.Order.{Edge, edge_cmp, edge_cmp-total}
 use Rattle.gx_epart.specs.Edges.{IsEdgeOrderOf, edge_order_of, with_edge}
-use Rattle.gx_epart.proofs.Orders.{Rises, Rises-from_sorted}
+use Rattle.gx_epart.specs.OrderLaws.{Rises, Rises-from_sorted}
 
 abbrev edge_lt : Edge → Edge → Bool
 edge_lt e f = is_lt (edge_cmp e f)

@@ -9,7 +9,7 @@ use Rattle.std.proofs.lemmas.List.MinMax.{ranks_by}
 use Rattle.std.proofs.lemmas.List.Sorted.{IsPermutation-append, IsPermutation-map, IsPermutation-refl, IsPermutation-sym, IsPermutation-trans}
 use Rattle.gx_rows.specs.Order.{Edge, edge_cmp, edge_cmp-total, row_cmp}
 use Rattle.gx_epart.specs.Edges.{IsEdgeOrderOf, edge_order_of}
-use Rattle.gx_exec_answers.proofs.StableOrder.{IsPermutation-order_of, IsSortedBy-order_of, order_of}
+use Rattle.gx_exec_answers.specs.StableOrderLaws.{IsPermutation-order_of, IsSortedBy-order_of, order_of}
 
 -- ---- items that are seen as edges, sorted
 

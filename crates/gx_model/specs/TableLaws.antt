@@ -13,8 +13,8 @@ use Rattle.gx_rows.specs.declared.value.Value.{Value}
 use Rattle.gx_rows.specs.declared.vid.Vid.{Vid}
 use Rattle.gx_index.specs.Ids.{IsAscending, has_id, id_cmp, id_cmp-exact, id_cmp-total, is_same_id}
 use Rattle.gx_model.specs.Graphs.{Vertex, first_row_of, ids_in_rows, table_of_rows}
-use Rattle.gx_model.proofs.Keys.{among, among-insert_key, sorted-insert_key, lookup-picked, sorted-picked}
-use Rattle.gx_model.proofs.Ordered.{same_entries}
+use Rattle.gx_model.specs.KeyLaws.{among, among-insert_key, sorted-insert_key, lookup-picked, sorted-picked}
+use Rattle.gx_model.specs.TableOrderLaws.{same_entries}
 
 -- two rows are of one identifier
 abbrev pub has_same_id : Vertex → Vertex → Bool
