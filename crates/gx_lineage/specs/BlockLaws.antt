@@ -7,5 +7,9 @@ use Rattle.gx_lineage.specs.declared.node_id.NodeId.{NodeId}
 use Rattle.gx_lineage.specs.Lineage.{blocks_at}
 
 -- the blocks at the first k + 1 parts are those at the first k, and then the block at k
-pub blocks_at_more : (n : NodeId) (k : ℕ) → blocks_at n (range_with_len 0 (k + 1)) ≡ blocks_at n (range_with_len 0 k) ++ record { node = n; part = k } ∷ []
-blocks_at_more n k = map-range_with_len_more (λ p. let b : BlockId = record { node = n; part = p } in b) 0 k k (omega arith)
+pub blocks_at_more : (n : NodeId) (k : ℕ)
+    → blocks_at n (range_with_len 0 (k + 1))
+    ≡ blocks_at n (range_with_len 0 k) ++ record { node = n; part = k } ∷ []
+blocks_at_more n k =
+    map-range_with_len_more (λ p. let b : BlockId = record { node = n; part = p } in b) 0 k k
+    (omega arith)

@@ -1,5 +1,31 @@
 -- Lists of numbers: what is in them, and that ascending ones are known by that.
-use Rattle.std.proofs.Common.{◌≡◌, ℕ, zero, suc, ◌+◌, ◌<◌, true, false, eqb, List, [], ◌∷◌, ◌++◌, length, Some, ◌⊎◌, inl, inr, refl, sym, ap, ap₂, ◌∙◌, subst, arith}
+use Rattle.std.proofs.Common.{
+  ◌≡◌,
+  ℕ,
+  zero,
+  suc,
+  ◌+◌,
+  ◌<◌,
+  true,
+  false,
+  eqb,
+  List,
+  [],
+  ◌∷◌,
+  ◌++◌,
+  length,
+  Some,
+  ◌⊎◌,
+  inl,
+  inr,
+  refl,
+  sym,
+  ap,
+  ap₂,
+  ◌∙◌,
+  subst,
+  arith,
+}
 use Rattle.std.specs.List.{AllByRecursion, IsAmong, list_any, slice_get, slice_index_or}
 use Rattle.std.proofs.lemmas.Bool.Decides.{eqb_tells}
 
@@ -28,11 +54,13 @@ all_at P n [] all is_in = absurd is_in
 all_at P n (m ∷ ms) all (inl e) = subst P (sym e) all.0
 all_at P n (m ∷ ms) all (inr more) = all_at P n ms all.1 more
 
-pub all_map : (P Q : ℕ → Type 0) → ((n : ℕ) → P n → Q n) → (ns : List ℕ) → AllByRecursion P ns → AllByRecursion Q ns
+pub all_map : (P Q : ℕ → Type 0) → ((n : ℕ) → P n → Q n) → (ns : List ℕ) → AllByRecursion P ns
+    → AllByRecursion Q ns
 all_map P Q h [] all = tt
 all_map P Q h (n ∷ ns) all = (h n all.0, all_map P Q h ns all.1)
 
-pub all_append : (P : ℕ → Type 0) (ns ms : List ℕ) → AllByRecursion P ns → AllByRecursion P ms → AllByRecursion P (ns ++ ms)
+pub all_append : (P : ℕ → Type 0) (ns ms : List ℕ) → AllByRecursion P ns → AllByRecursion P ms
+    → AllByRecursion P (ns ++ ms)
 all_append P [] ms all more = more
 all_append P (n ∷ ns) ms all more = (all.0, all_append P ns ms all.1 more)
 
@@ -48,14 +76,19 @@ in_right n (k ∷ ns) ms is_in = inr (in_right n ns ms is_in)
 pub in_either : (n : ℕ) (ns ms : List ℕ) → IsIn n (ns ++ ms) → IsIn n ns ⊎ IsIn n ms
 in_either n [] ms is_in = inr is_in
 in_either n (k ∷ ns) ms (inl e) = inl (inl e)
-in_either n (k ∷ ns) ms (inr more) = elim (in_either n ns ms more) [ inl left ↦ inl (inr left) | inr right ↦ inr right ]
+in_either n (k ∷ ns) ms (inr more) =
+    elim (in_either n ns ms more) [ inl left ↦ inl (inr left) | inr right ↦ inr right ]
 
 -- ---- the test
 
 pub in_from_any : (m : ℕ) (ns : List ℕ) → list_any (λ n. eqb n m) ns ≡ true → IsIn m ns
 in_from_any m [] any = cc
 in_from_any m (n ∷ ns) any =
-    elim (eqb_tells n m) [ inl same ↦ inl (sym same.1) | inr apart ↦ inr (in_from_any m ns (rw apart.0 at any)) ]
+    elim (eqb_tells n m) [
+      | inl same ↦ inl (sym same.1)
+      | inr apart ↦ inr
+          (in_from_any m ns (rw apart.0 at any))
+    ]
 
 pub not_in_from_any : (m : ℕ) (ns : List ℕ) → list_any (λ n. eqb n m) ns ≡ false → IsIn m ns → ⊥
 not_in_from_any m [] any is_in = is_in
@@ -65,7 +98,11 @@ not_in_from_any m (n ∷ ns) any (inl e) =
     by : true ≡ false → ⊥
     by e = cc
 not_in_from_any m (n ∷ ns) any (inr more) =
-    elim (eqb_tells n m) [ inl same ↦ by (rw same.0 at any) | inr apart ↦ not_in_from_any m ns (rw apart.0 at any) more ]
+    elim (eqb_tells n m) [
+      | inl same ↦ by (rw same.0 at any)
+      | inr apart ↦ not_in_from_any m ns
+          (rw apart.0 at any) more
+    ]
   where
     by : true ≡ false → ⊥
     by e = cc
@@ -76,38 +113,61 @@ abbrev pub Ascends : List ℕ → Type 0
 Ascends [] = Unit {0}
 Ascends (n ∷ ns) = AllByRecursion (λ m. n < m) ns × Ascends ns
 
-pub Ascends-append : (ns : List ℕ) (m : ℕ) → Ascends ns → AllByRecursion (λ n. n < m) ns → Ascends (ns ++ m ∷ [])
+pub Ascends-append : (ns : List ℕ) (m : ℕ) → Ascends ns → AllByRecursion (λ n. n < m) ns
+    → Ascends (ns ++ m ∷ [])
 Ascends-append [] m ascends below = (tt, tt)
-Ascends-append (n ∷ ns) m ascends below =
-    (all_append (λ k. n < k) ns (m ∷ []) ascends.0 (below.0, tt), Ascends-append ns m ascends.1 below.1)
+Ascends-append (n ∷ ns) m ascends below = (
+  all_append (λ k. n < k) ns (m ∷ []) ascends.0 (below.0, tt),
+  Ascends-append ns m ascends.1 below.1,
+)
 
-pub Ascends-from_adjacent : (ns : List ℕ) → ((i a b : ℕ) → slice_get ns i ≡ Some a → slice_get ns (i + 1) ≡ Some b → a < b) → Ascends ns
+pub Ascends-from_adjacent : (ns : List ℕ)
+    → ((i a b : ℕ) → slice_get ns i ≡ Some a → slice_get ns (i + 1) ≡ Some b → a < b) → Ascends ns
 Ascends-from_adjacent [] adjacent = tt
 Ascends-from_adjacent (n ∷ []) adjacent = (tt, tt)
 Ascends-from_adjacent (n ∷ m ∷ ns) adjacent =
     let less = adjacent 0 n m refl refl in
-    let rest = Ascends-from_adjacent (m ∷ ns) (λ i a b at next. let e : suc i + 1 ≡ suc (i + 1) = omega arith in adjacent (suc i) a b at (ap (slice_get (n ∷ m ∷ ns)) e ∙ next)) in
+    let rest = Ascends-from_adjacent (m ∷ ns) (λ i a b at next. let e : suc i + 1 ≡ suc (i + 1) =
+    omega arith in adjacent (suc i) a b at (ap (slice_get (n ∷ m ∷ ns)) e ∙ next)) in
     ((less, all_map (λ k. m < k) (λ k. n < k) (λ k above. omega arith) ns rest.0), rest)
 
 -- ascending lists with the same numbers are equal
-pub same_ascending : (ns ms : List ℕ) → Ascends ns → Ascends ms → ((k : ℕ) → IsIn k ns → IsIn k ms) → ((k : ℕ) → IsIn k ms → IsIn k ns) → ns ≡ ms
+pub same_ascending : (ns ms : List ℕ) → Ascends ns → Ascends ms → ((k : ℕ) → IsIn k ns → IsIn k ms)
+    → ((k : ℕ) → IsIn k ms → IsIn k ns) → ns ≡ ms
 same_ascending [] [] a b there back = refl
 same_ascending [] (m ∷ ms) a b there back = absurd (back m (inl refl))
 same_ascending (n ∷ ns) [] a b there back = absurd (there n (inl refl))
 same_ascending (n ∷ ns) (m ∷ ms) a b there back =
     let head : n ≡ m = first n ns m ms a b there back in
-    ap₂ (λ k ks. k ∷ ks) head (same_ascending ns ms a.1 b.1 (rest n ns m ms a b head there) (rest m ms n ns b a (sym head) back))
+    ap₂ (λ k ks. k ∷ ks) head
+    (same_ascending ns ms a.1 b.1 (rest n ns m ms a b head there)
+    (rest m ms n ns b a (sym head) back))
   where
-    first : (n : ℕ) (ns : List ℕ) (m : ℕ) (ms : List ℕ) → Ascends (n ∷ ns) → Ascends (m ∷ ms) → ((k : ℕ) → IsIn k (n ∷ ns) → IsIn k (m ∷ ms)) → ((k : ℕ) → IsIn k (m ∷ ms) → IsIn k (n ∷ ns)) → n ≡ m
+    first : (n : ℕ) (ns : List ℕ) (m : ℕ) (ms : List ℕ) → Ascends (n ∷ ns) → Ascends (m ∷ ms)
+        → ((k : ℕ) → IsIn k (n ∷ ns) → IsIn k (m ∷ ms))
+        → ((k : ℕ) → IsIn k (m ∷ ms) → IsIn k (n ∷ ns)) → n ≡ m
     first n ns m ms a b there back =
-        elim (there n (inl refl)) [ inl e ↦ e | inr later ↦ elim (back m (inl refl)) [ inl e ↦ sym e | inr after ↦ absurd (apart (all_at (λ k. m < k) n ms b.0 later) (all_at (λ k. n < k) m ns a.0 after)) ] ]
+        elim (there n (inl refl)) [
+          | inl e ↦ e
+          | inr later ↦ elim
+              (back m (inl refl)) [
+                | inl e ↦ sym e
+                | inr after ↦ absurd
+                    (apart (all_at (λ k. m < k) n ms b.0 later) (all_at (λ k. n < k) m ns a.0 after))
+              ]
+        ]
       where
         apart : m < n → n < m → ⊥
         apart p q = omega arith
 
-    rest : (n : ℕ) (ns : List ℕ) (m : ℕ) (ms : List ℕ) → Ascends (n ∷ ns) → Ascends (m ∷ ms) → n ≡ m → ((k : ℕ) → IsIn k (n ∷ ns) → IsIn k (m ∷ ms)) → (k : ℕ) → IsIn k ns → IsIn k ms
+    rest : (n : ℕ) (ns : List ℕ) (m : ℕ) (ms : List ℕ) → Ascends (n ∷ ns) → Ascends (m ∷ ms) → n ≡ m
+        → ((k : ℕ) → IsIn k (n ∷ ns) → IsIn k (m ∷ ms)) → (k : ℕ) → IsIn k ns → IsIn k ms
     rest n ns m ms a b head there k is_in =
-        elim (there k (inr is_in)) [ inl e ↦ absurd (apart (all_at (λ j. n < j) k ns a.0 is_in) head e) | inr more ↦ more ]
+        elim (there k (inr is_in)) [
+          | inl e ↦ absurd
+              (apart (all_at (λ j. n < j) k ns a.0 is_in) head e)
+          | inr more ↦ more
+        ]
       where
         apart : n < k → n ≡ m → k ≡ m → ⊥
         apart p q r = omega arith
