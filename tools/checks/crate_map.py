@@ -8,6 +8,8 @@ Each gives the groups in the same order, and the crates of each group in the sam
   cell names what it depends on, as crates.txt does;
 - in docs/architecture.md, between the same two lines, a line that starts with `**NAME**` begins a
   group, and its crates are those named in backticks in it and in the lines up to the next group.
+
+No crate cites the proofs of another: what the crates above cite stands in specs/.
 """
 
 import re
@@ -123,3 +125,19 @@ def check_map():
             if depends is not None:
                 problem = other_depends(depends, wanted.depends.get(crate, []))
                 judge(f"{name}, what {crate} depends on", problem)
+
+
+OF_PROOFS = re.compile(r"Rattle\.(\w+)\.proofs\b")
+
+
+def check_citations():
+    """Of each crate, the files that cite the proofs of another crate."""
+    for folder in sorted(it.parent for it in TOP.glob("crates/*/src")):
+        found = []
+        for kind in ("src", "specs", "proofs"):
+            for file in sorted(it for it in folder.glob(f"{kind}/**/*") if it.suffix in (".antt", ".rt")):
+                others = {it for it in OF_PROOFS.findall(file.read_text()) if it.startswith("gx")}
+                if others - {folder.name}:
+                    found.append(str(file.relative_to(folder)))
+        problem = f"cited in {', '.join(found)}" if found else None
+        judge(f"{folder.relative_to(TOP)}, proofs of other crates", problem)

@@ -19,7 +19,7 @@ use Rattle.gx_plan.specs.Recipes.{recipe_of}
 use Rattle.gx_plan.specs.StmtNodes.{phase_recipes, statement_of}
 use Rattle.gx_plan.specs.declared.kind.Kind.TheVariants as kind
 use Rattle.gx_plan.specs.declared.recipe.Recipe.{Recipe}
-use Rattle.gx_plan.proofs.Fronts.{fronts-joined}
+use Rattle.gx_plan.specs.FrontLaws.{fronts-joined}
 use Rattle.gx_rows.specs.declared.fault.Fault.{Fault}
 use Rattle.gx_types_stmts.specs.declared.checked_stmt.CheckedStmt.{CheckedStmt}
 use Rattle.gx_types_stmts.specs.declared.typed_stmt.TypedStmt.{TypedStmt}
@@ -31,8 +31,8 @@ use Rattle.gx_exec.specs.declared.run_stop.RunStop.{RunStop}
 use Rattle.gx_exec.specs.declared.run_stop.RunStop.TheVariants as run_stop
 use Rattle.gx_exec.specs.Courses.{Course, EndsAs, PassesAs, StopsAs, answered, fault_of_phase, forced, forced_all, joined, phase, phases, still, targets_of, was_added}
 use Rattle.gx_exec.specs.Engines.{ForcesTo, HoldsWorkOf, IsSteady, MayForce, action_answer, point_of, with_stmt}
-use Rattle.gx_exec.proofs.CourseFaults.{found-statement, front-forced, front-forced_all}
-use Rattle.gx_exec.proofs.CourseRuns.{OnCourse, course-ends, course-last, course-last_stops, course-more, course-starts, course-stops, front-same, passes-all}
+use Rattle.gx_exec.specs.CourseFaultLaws.{found-statement, front-forced, front-forced_all}
+use Rattle.gx_exec.specs.CourseRunLaws.{OnCourse, course-ends, course-last, course-last_stops, course-more, course-starts, course-stops, front-same, passes-all}
 use Rattle.gx_exec.proofs.ForcedStatements.{forced-phases}
 use Rattle.gx_exec.proofs.NeededStatements.{AreForcedTo, AreForcedTo-more, AreForcedTo-none, last-may, next-may, used-low, used-range}
 

@@ -13,10 +13,10 @@ use Rattle.gx_exec.specs.declared.run_stop.RunStop.{RunStop}
 use Rattle.gx_exec.specs.Courses.{Course, EndsAs, StopsAs, forced, phases, still, was_added}
 use Rattle.gx_exec.specs.Engines.{AreQuiet, ForcesTo, HoldsWorkOf, IsSteady, MayForce, point_of, with_stmt}
 use Rattle.gx_exec.specs.Phases.{AreNext}
-use Rattle.gx_exec.proofs.CourseRuns.{OnCourse}
-use Rattle.gx_exec.proofs.FreshStatements.{added-cases, added-here, others-kept}
+use Rattle.gx_exec.specs.CourseRunLaws.{OnCourse}
+use Rattle.gx_exec.specs.FreshStatementLaws.{added-cases, added-here, others-kept}
 use Rattle.gx_exec.proofs.LargerPlans.{work-kept}
-use Rattle.gx_exec.proofs.PhaseOrder.{fresh-front, phases-next}
+use Rattle.gx_exec.specs.PhaseOrderLaws.{fresh-front, phases-next}
 
 -- ---- phase by phase
 

@@ -16,9 +16,9 @@ use Rattle.gx_lineage.specs.Lineage.{IsBlock, block_inputs}
 use Rattle.gx_lineage.specs.declared.block_id.BlockId.{BlockId}
 use Rattle.gx_plan.specs.PlanInvariant.{IsFrontOf}
 use Rattle.gx_plan.specs.Plans.{Planned}
-use Rattle.gx_plan.proofs.Fronts.{front-inputs}
+use Rattle.gx_plan.specs.FrontLaws.{front-inputs}
 use Rattle.gx_exec_contents.specs.Worlds.{IsSetting, World}
-use Rattle.gx_exec_contents.proofs.GrownPlans.{contents-kept}
+use Rattle.gx_exec_contents.specs.GrownPlanLaws.{contents-kept}
 use Rattle.gx_exec_work.specs.Works.{IsContentOf, PlannedWorld, cargo_in, freight_of, net_in}
 use Rattle.gx_exec_work.specs.declared.block.Block.{Block}
 use Rattle.gx_exec.specs.Engines.{HoldsWorkOf, point_of}

@@ -10,10 +10,10 @@ use Rattle.gx_exec.specs.declared.run_stop.RunStop.{RunStop}
 use Rattle.gx_exec.specs.Courses.{EndsAs, StopsAs, phase, phases}
 use Rattle.gx_exec.specs.Engines.{HoldsWorkOf, point_of}
 use Rattle.gx_exec.specs.Phases.{AreNext, AreUnstopped, MayJudge}
-use Rattle.gx_exec.proofs.CourseFaults.{phases-planned}
-use Rattle.gx_exec.proofs.CourseRuns.{OnCourse, course-more, course-stops, front-same}
+use Rattle.gx_exec.specs.CourseFaultLaws.{phases-planned}
+use Rattle.gx_exec.specs.CourseRunLaws.{OnCourse, course-more, course-stops, front-same}
 use Rattle.gx_exec.proofs.ForcedStatements.{IsPhased}
-use Rattle.gx_exec.proofs.QuietPlans.{next-judged, next-more}
+use Rattle.gx_exec.specs.QuietPlanLaws.{next-judged, next-more}
 
 -- the next phase, and the others
 pub next-phase : {V : Type 0} (vs : List V) (items : V → List NodeId) (i : ℕ) (v : V) (ns : List NodeId) → i < length vs → v ≡ get_or vs i v → ns ≡ items v

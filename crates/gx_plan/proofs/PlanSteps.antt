@@ -13,8 +13,8 @@ use Rattle.gx_plan.specs.StmtNodes.{feeds, own_kinds, statement_of}
 use Rattle.gx_plan.specs.declared.kind.Kind.{Kind}
 use Rattle.gx_plan.specs.declared.recipe.Recipe.{Recipe}
 use Rattle.gx_plan.specs.declared.result_nodes.ResultNodes.{ResultNodes}
-use Rattle.gx_plan.proofs.OneNode.{pushed}
-use Rattle.gx_plan.proofs.OneStatement.{added-front, added-plan, each-more, own-may}
+use Rattle.gx_plan.specs.OneNodeLaws.{pushed}
+use Rattle.gx_plan.specs.OneStatementLaws.{added-front, added-plan, each-more, own-may}
 
 pub pushed-as : (script other : List CheckedStmt) (p q : Planned) (r : Recipe) → MayPush script p r → other ≡ script → q ≡ with_recipe script p r → IsPlan other q
 pushed-as script other p q r may same is =

@@ -21,7 +21,7 @@ use Rattle.gx_run.specs.ActionLogs.{LogsAs, MayAnswerFrom, actions_of, moment_of
 use Rattle.gx_run.specs.Meaning.{loaded_under}
 use Rattle.gx_run.specs.RunLogs.{CarriesOut, CarriesOutPart, IsStart, LoadsAs, LogEnds, LogsAll, LogsPart, RunLogs, course_by, start_of, world_of}
 use Rattle.gx_run.specs.Steps.{Reads, Refuses, RefusesUnknown}
-use Rattle.gx_exec.proofs.CourseRuns.{front-same, passes-all}
+use Rattle.gx_exec.specs.CourseRunLaws.{front-same, passes-all}
 use Rattle.gx_run_args.specs.RunCommands.{RunCommand}
 
 -- ---- before the first action

@@ -3,8 +3,8 @@ use Rattle.gx_plan.specs.PlanInvariant.{IsFrontOf}
 use Rattle.gx_exec.specs.Courses.{forced}
 use Rattle.gx_exec_work.specs.Works.{net_in}
 use Rattle.gx_exec.specs.Engines.{point_of}
-use Rattle.gx_exec.proofs.CourseFaults.{forced-fault}
-use Rattle.gx_exec.proofs.CourseRuns.{front-same, passes-here}
+use Rattle.gx_exec.specs.CourseFaultLaws.{forced-fault}
+use Rattle.gx_exec.specs.CourseRunLaws.{front-same, passes-here}
 use Rattle.gx_exec.proofs.ForcedStatements.{after-contents, after-front, after-next, after-steady, forced-ends, forced-stops}
 use Rattle.gx_exec.proofs.JudgedPhases.{exact-by}
 use Rattle.gx_exec.proofs.engine.Engine.force.Goals as goal

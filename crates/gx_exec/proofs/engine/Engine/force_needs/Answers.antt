@@ -1,11 +1,11 @@
 use Rattle.std.proofs.Common.{◌∙◌, subst, sym}
-use Rattle.gx_plan.proofs.Fronts.{fronts-joined}
+use Rattle.gx_plan.specs.FrontLaws.{fronts-joined}
 use Rattle.gx_model.specs.NamesUsed.{stmts_used}
 use Rattle.gx_exec_work.specs.Works.{net_in}
 use Rattle.gx_exec.specs.Courses.{forced_all}
 use Rattle.gx_exec.specs.Engines.{point_of}
 use Rattle.gx_exec.proofs.AnsweredActions.{IsForcing, IsForcing-none, forcing-last, forcing-later, forcing-may, forcing-more, forcing-stops}
-use Rattle.gx_exec.proofs.CourseRuns.{front-same, passes-here}
+use Rattle.gx_exec.specs.CourseRunLaws.{front-same, passes-here}
 use Rattle.std.proofs.lemmas.List.{drop_all}
 use Rattle.gx_exec.proofs.HeldStops.{drop_next}
 use Rattle.gx_exec.proofs.engine.Engine.force_needs.Goals as goal

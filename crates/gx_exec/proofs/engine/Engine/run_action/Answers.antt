@@ -1,7 +1,7 @@
 use Rattle.std.proofs.Common.{◌∙◌, ◌≡◌, true, IsSome, subst, sym, arith}
 use Rattle.gx_cluster.specs.States.{shape}
 use Rattle.gx_cluster_state.specs.Shapes.{all_held}
-use Rattle.gx_plan.proofs.Fronts.{fronts-joined}
+use Rattle.gx_plan.specs.FrontLaws.{fronts-joined}
 use Rattle.gx_exec.specs.Engines.{action_answer, point_of}
 use Rattle.gx_exec_contents.specs.Worlds.{loaded_in}
 use Rattle.gx_exec.proofs.ReadActions.{forced-later}

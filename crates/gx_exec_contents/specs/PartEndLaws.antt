@@ -12,7 +12,7 @@ use Rattle.gx_epart.specs.Edges.{edge_order_of, with_edge}
 use Rattle.gx_gops.specs.Tables.{both_ends}
 use Rattle.gx_model.specs.Graphs.{plain_edges}
 use Rattle.gx_exec_contents.specs.PartContents.{part_of_edges}
-use Rattle.gx_exec_contents.proofs.TableParts.{same_from_test}
+use Rattle.gx_exec_contents.specs.TablePartLaws.{same_from_test}
 
 -- ---- whether some item passes a test
 

@@ -13,7 +13,7 @@ use Rattle.gx_plan.specs.PlanLaws.{IsOwned}
 use Rattle.gx_plan.specs.Plans.{Planned, recipe_at}
 use Rattle.gx_plan.specs.Recipes.{recipe_of}
 use Rattle.gx_plan.specs.StmtNodes.{feeds, statement_of}
-use Rattle.gx_plan.proofs.SortedScripts.{sorted-owned}
+use Rattle.gx_plan.specs.SortedScriptLaws.{sorted-owned}
 use Rattle.gx_plan.specs.declared.feed.Feed.{Feed}
 use Rattle.gx_plan.specs.declared.kind.Kind.{Kind}
 use Rattle.gx_plan.specs.declared.kind.Kind.TheVariants as kind
@@ -25,9 +25,9 @@ use Rattle.gx_exec_contents.specs.BlockLaws.{ContentsAreMade}
 use Rattle.gx_exec_contents.specs.MadeBlocks.{made_by, made_kind}
 use Rattle.gx_exec_contents.specs.PartContents.{BlockStop, Content, first_given, held_kind, stop_in, stop_or}
 use Rattle.gx_exec_contents.specs.Worlds.{IsSetting, IsWorld, World, value_in}
-use Rattle.gx_exec_contents.proofs.MadeStatements.{fed, made-kind}
-use Rattle.gx_exec_contents.proofs.StatementValues.{IsStatement, is_statement, owned-value, value_in-stmt}
-use Rattle.gx_exec_contents.proofs.StoppedBlocks.{stop_of-is}
+use Rattle.gx_exec_contents.specs.MadeStatementLaws.{fed, made-kind}
+use Rattle.gx_exec_contents.specs.StatementValueLaws.{IsStatement, is_statement, owned-value, value_in-stmt}
+use Rattle.gx_exec_contents.specs.StoppedBlockLaws.{stop_of-is}
 
 -- ---- the inputs of a node hold what its recipe reads
 

@@ -25,8 +25,8 @@ use Rattle.gx_types_stmts.specs.declared.typed_stmt.TypedStmt.{TypedStmt}
 use Rattle.gx_types_stmts.specs.declared.typed_stmt.TypedStmt.TheVariants as stmts
 use Rattle.gx_exec_contents.specs.PartContents.{held_kind}
 use Rattle.gx_exec_contents.specs.Worlds.{IsWorld, World, is_modelled, places_in, placed_values, stmts_of, value_in}
-use Rattle.gx_exec_contents.proofs.EndsOfParts.{ArePlaced}
-use Rattle.gx_exec_contents.proofs.TableParts.{IsAscending-passing, IsAscending-with_new_rows}
+use Rattle.gx_exec_contents.specs.PartEndLaws.{ArePlaced}
+use Rattle.gx_exec_contents.specs.TablePartLaws.{IsAscending-passing, IsAscending-with_new_rows}
 
 -- ---- order and places
 

@@ -30,9 +30,9 @@ use Rattle.gx_exec_contents.specs.BlockContents.{value_in_part}
 use Rattle.gx_exec_contents.specs.PartContents.{BlockStop, fault_kind, part_of_vertices, stop_on_vertex, stop_over_vertices}
 use Rattle.gx_exec_contents.specs.PhaseFaults.{FaultsAreOfModel, LeastAreFaults, OwnFaultsAreOfModel, fault_of_stop, key_cmp, least_over, lesser_of}
 use Rattle.gx_exec_contents.specs.Worlds.{World, value_in}
-use Rattle.gx_exec_contents.proofs.MadeTables.{both-in_part, join_faults-in_part}
-use Rattle.gx_exec_contents.proofs.StatementValues.{value-placed}
-use Rattle.gx_exec_contents.proofs.TableParts.{IsAscending-part, IsAscending-passing, below-passing}
+use Rattle.gx_exec_contents.specs.MadeTableLaws.{both-in_part, join_faults-in_part}
+use Rattle.gx_exec_contents.specs.StatementValueLaws.{value-placed}
+use Rattle.gx_exec_contents.specs.TablePartLaws.{IsAscending-part, IsAscending-passing, below-passing}
 
 -- ---- the least of stops over parts
 

@@ -27,11 +27,11 @@ use Rattle.gx_exec_contents.specs.BlockContents.{value_in_part}
 use Rattle.gx_exec_contents.specs.MadeBlocks.{completed, edges_held, edges_moved, made_kind}
 use Rattle.gx_exec_contents.specs.PartContents.{Content, Edges, Table, fault_kind, held_kind, part_of_edges, part_of_vertices, stop_or}
 use Rattle.gx_exec_contents.specs.Worlds.{World, places_in, placed_values, value_in}
-use Rattle.gx_exec_contents.proofs.EndsOfParts.{ArePlaced, ends_of_parts, has_id-filter}
-use Rattle.gx_exec_contents.proofs.MadeTables.{diff-is, inner_joined-is, kept-is, left_joined-is, mapped-is, minus-is}
-use Rattle.gx_exec_contents.proofs.MovedEdges.{order-moved}
-use Rattle.gx_exec_contents.proofs.StatementValues.{value-placed}
-use Rattle.gx_exec_contents.proofs.TableParts.{part-table_of_rows, part-with_default, table_of-is}
+use Rattle.gx_exec_contents.specs.PartEndLaws.{ArePlaced, ends_of_parts, has_id-filter}
+use Rattle.gx_exec_contents.specs.MadeTableLaws.{diff-is, inner_joined-is, kept-is, left_joined-is, mapped-is, minus-is}
+use Rattle.gx_exec_contents.specs.MovedEdgeLaws.{order-moved}
+use Rattle.gx_exec_contents.specs.StatementValueLaws.{value-placed}
+use Rattle.gx_exec_contents.specs.TablePartLaws.{part-table_of_rows, part-with_default, table_of-is}
 
 -- ---- what a node reads, if nothing is at fault
 

@@ -5,7 +5,7 @@ use Rattle.gx_lineage.specs.Lineage.{KeepsInputs, blocks_of_input}
 use Rattle.gx_lineage.specs.Nodes.{Node}
 use Rattle.gx_plan.specs.PlanInvariant.{IsFrontOf}
 use Rattle.gx_plan.specs.Plans.{Planned}
-use Rattle.gx_plan.proofs.Nodes.{slice_get-front}
+use Rattle.gx_plan.specs.NodeLaws.{slice_get-front}
 
 pub fronts-joined : (p q o : Planned) → IsFrontOf p q → IsFrontOf q o → IsFrontOf p o
 fronts-joined p q o a b = record {

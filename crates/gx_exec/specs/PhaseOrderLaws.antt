@@ -11,7 +11,7 @@ use Rattle.gx_plan.specs.StmtNodes.{demanded_by, inherits, own_kinds, own_recipe
 use Rattle.gx_plan.specs.declared.kind.Kind.{Kind}
 use Rattle.gx_plan.specs.declared.kind.Kind.TheVariants.{Vertices, Edges}
 use Rattle.gx_plan.specs.declared.recipe.Recipe.{Recipe}
-use Rattle.gx_plan.proofs.OneStatement.{added-front, added-plan, recipes-kept}
+use Rattle.gx_plan.specs.OneStatementLaws.{added-front, added-plan, recipes-kept}
 use Rattle.gx_types_stmts.specs.StmtNumbers.{named_numbers}
 use Rattle.gx_types_stmts.specs.declared.checked_stmt.CheckedStmt.{CheckedStmt}
 use Rattle.gx_types_stmts.specs.declared.typed_stmt.TypedStmt.{TypedStmt}
@@ -21,8 +21,8 @@ use Rattle.gx_exec_work.specs.Works.{PlannedWorld}
 use Rattle.gx_exec.specs.Courses.{was_added}
 use Rattle.gx_exec.specs.Engines.{AreQuiet, MayForce}
 use Rattle.gx_exec.specs.Phases.{AreInOrder, AreNext}
-use Rattle.gx_exec.proofs.FreshStatements.{fresh-result, result-here}
-use Rattle.gx_exec.proofs.QuietPlans.{quiet-kept}
+use Rattle.gx_exec.specs.FreshStatementLaws.{fresh-result, result-here}
+use Rattle.gx_exec.specs.QuietPlanLaws.{quiet-kept}
 
 -- ---- lists of phases
 

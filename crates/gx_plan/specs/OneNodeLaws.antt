@@ -14,7 +14,7 @@ use Rattle.gx_plan.specs.Recipes.{node_kind_of, recipe_of}
 use Rattle.gx_plan.specs.StmtNodes.{feeds}
 use Rattle.gx_plan.specs.declared.feed.Feed.{Feed}
 use Rattle.gx_plan.specs.declared.recipe.Recipe.{Recipe}
-use Rattle.gx_plan.proofs.Nodes.{inputs-found, inputs-more, node-more, slice_get-end, slice_get-front}
+use Rattle.gx_plan.specs.NodeLaws.{inputs-found, inputs-more, node-more, slice_get-end, slice_get-front}
 
 -- the inputs of node n, of these nodes
 inputs_at : List Node → ℕ → List Input

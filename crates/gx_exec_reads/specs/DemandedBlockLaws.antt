@@ -12,9 +12,9 @@ use Rattle.gx_cluster_state.specs.declared.held.Held.{Held}
 use Rattle.gx_epart.specs.UniqueLaws.{IsEdgeOrderOf-unique}
 use Rattle.gx_epart.specs.Edges.{edge_order_of}
 use Rattle.gx_exec_answers.specs.PartAnswerLaws.{edges-of_ordered_parts}
-use Rattle.gx_exec_contents.proofs.EqualEdges.{edge_cmp-exact}
-use Rattle.gx_exec_contents.proofs.JoinedParts.{edges-are_their_parts, table-is_its_parts}
-use Rattle.gx_exec_contents.proofs.StatementValues.{owned-value, value-placed}
+use Rattle.gx_exec_contents.specs.EqualEdgeLaws.{edge_cmp-exact}
+use Rattle.gx_exec_contents.specs.JoinedPartLaws.{edges-are_their_parts, table-is_its_parts}
+use Rattle.gx_exec_contents.specs.StatementValueLaws.{owned-value, value-placed}
 use Rattle.gx_exec_contents.specs.BlockContents.{content_of, held_by}
 use Rattle.gx_exec_contents.specs.MadeBlocks.{edges_held, vertices_held}
 use Rattle.gx_exec_contents.specs.PartContents.{held_kind, part_of_edges, part_of_vertices, stop_or}
@@ -34,8 +34,8 @@ use Rattle.gx_plan.specs.declared.kind.Kind.TheVariants as kind
 use Rattle.gx_plan.specs.declared.recipe.Recipe.{Recipe}
 use Rattle.gx_rows.specs.Order.{Edge}
 use Rattle.gx_exec_reads.specs.HeldAnswers.{held_contents}
-use Rattle.gx_exec_reads.proofs.OneDemand.{blocks-of_node, blocks_of_phases}
-use Rattle.gx_exec_reads.proofs.UnmadeRows.{unserved-edges, unserved-vertices}
+use Rattle.gx_exec_reads.specs.OneDemandLaws.{blocks-of_node, blocks_of_phases}
+use Rattle.gx_exec_reads.specs.UnmadeRowLaws.{unserved-edges, unserved-vertices}
 
 -- ---- held blocks are contents
 

@@ -12,7 +12,7 @@ use Rattle.gx_exec_contents.specs.BlockLaws.{ContentsAreKept}
 use Rattle.gx_exec_contents.specs.Deep.{StepAlike}
 use Rattle.gx_exec_contents.specs.PartContents.{first_given, stop_or}
 use Rattle.gx_exec_contents.specs.Worlds.{IsSetting, World}
-use Rattle.gx_exec_contents.proofs.StoppedBlocks.{deep_at-same, given-same}
+use Rattle.gx_exec_contents.specs.StoppedBlockLaws.{deep_at-same, given-same}
 
 slice_get-front : {X : Type 0} (xs ys : List X) (i : ℕ) → i < length xs → slice_get (xs ++ ys) i ≡ slice_get xs i
 slice_get-front [] ys i within = absurd (omega arith)

@@ -7,7 +7,7 @@ use Rattle.gx_exec_contents.specs.Worlds.{World}
 use Rattle.gx_exec_work.specs.Works.{net_in}
 use Rattle.gx_plan.specs.PlanInvariant.{IsFrontOf}
 use Rattle.gx_plan.specs.Plans.{Planned}
-use Rattle.gx_plan.proofs.Fronts.{fronts-joined}
+use Rattle.gx_plan.specs.FrontLaws.{fronts-joined}
 use Rattle.gx_rows.specs.declared.fault.Fault.{Fault}
 use Rattle.gx_exec.specs.declared.run_stop.RunStop.{RunStop}
 use Rattle.gx_exec.specs.declared.run_stop.RunStop.TheVariants as run_stop

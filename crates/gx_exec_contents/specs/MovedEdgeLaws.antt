@@ -15,10 +15,10 @@ use Rattle.gx_epart.specs.UniqueLaws.{IsEdgeOrderOf-unique}
 use Rattle.gx_gops.specs.Moving.{edges_placed_in, is_placed_in}
 use Rattle.gx_model.specs.Graphs.{placed_anew, plain_edges}
 use Rattle.gx_rows.specs.Order.{Edge, edge_cmp, edge_cmp-total}
-use Rattle.gx_exec_contents.proofs.EqualEdges.{edge_cmp-exact}
+use Rattle.gx_exec_contents.specs.EqualEdgeLaws.{edge_cmp-exact}
 use Rattle.gx_exec_contents.specs.PartContents.{part_of_edges}
-use Rattle.gx_exec_contents.proofs.EndsOfParts.{ArePlaced}
-use Rattle.gx_exec_contents.proofs.JoinedParts.{edges-are_their_parts}
+use Rattle.gx_exec_contents.specs.PartEndLaws.{ArePlaced}
+use Rattle.gx_exec_contents.specs.JoinedPartLaws.{edges-are_their_parts}
 
 -- ---- edges in edge order are sorted
 

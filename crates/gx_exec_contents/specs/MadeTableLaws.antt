@@ -23,7 +23,7 @@ use Rattle.gx_vtable.specs.Kernels.{earliest_fault, fault_if, faults_at, rows_ma
 use Rattle.gx_vtable.specs.NewRows.{columns_at_vertex, columns_in_join, id_at_vertex, inner_row, join_id, left_row, mapped_row, test_result, values_at_vertex, values_in_join, vertex_id}
 use Rattle.gx_exec_contents.specs.MadeBlocks.{mapped, vertices_kept, vertices_made}
 use Rattle.gx_exec_contents.specs.PartContents.{Table, part_of_vertices, stop_on_vertex, stop_or, stop_over_vertices}
-use Rattle.gx_exec_contents.proofs.TableParts.{IsAscending-part, IsAscending-passing, filter_map-in_part, look_up-in_part, part-passing, part-with_new_rows}
+use Rattle.gx_exec_contents.specs.TablePartLaws.{IsAscending-part, IsAscending-passing, filter_map-in_part, look_up-in_part, part-passing, part-with_new_rows}
 
 -- ---- what an expression reads
 

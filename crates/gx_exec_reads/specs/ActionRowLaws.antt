@@ -7,9 +7,9 @@ use Rattle.gx_cluster.specs.States.{HoldsContents, State, shape}
 use Rattle.gx_cluster_state.specs.Shapes.{all_held}
 use Rattle.gx_epart.specs.UniqueLaws.{IsEdgeOrderOf-unique}
 use Rattle.gx_exec_answers.specs.PartAnswerLaws.{count_answer-of_parts, edges_answer-of_parts, vertices_answer-of_parts}
-use Rattle.gx_exec_contents.proofs.EqualEdges.{edge_cmp-exact}
-use Rattle.gx_exec_contents.proofs.StatementValues.{value-placed}
-use Rattle.gx_exec_contents.proofs.ValuesWithoutPlaces.{answers-are_plain}
+use Rattle.gx_exec_contents.specs.EqualEdgeLaws.{edge_cmp-exact}
+use Rattle.gx_exec_contents.specs.StatementValueLaws.{value-placed}
+use Rattle.gx_exec_contents.specs.PlaceLaws.{answers-are_plain}
 use Rattle.gx_exec_contents.specs.BlockContents.{content_of}
 use Rattle.gx_exec_contents.specs.MadeBlocks.{edges_held, vertices_held}
 use Rattle.gx_exec_contents.specs.PartContents.{Content}
@@ -28,9 +28,9 @@ use Rattle.gx_types_stmts.specs.declared.typed_stmt.TypedStmt.{TypedStmt}
 use Rattle.gx_types_stmts.specs.declared.typed_stmt.TypedStmt.TheVariants as stmts
 use Rattle.gx_exec_reads.specs.Actions.{IsAction}
 use Rattle.gx_exec_reads.specs.HeldAnswers.{answer_of_blocks, answer_of_contents, held_contents}
-use Rattle.gx_exec_reads.proofs.DemandedBlocks.{contents-held, edges-demanded, vertices-demanded}
-use Rattle.gx_exec_reads.proofs.NamesInScript.{statement-found}
-use Rattle.gx_exec_reads.proofs.OneDemand.{blocks_of_phases}
+use Rattle.gx_exec_reads.specs.DemandedBlockLaws.{contents-held, edges-demanded, vertices-demanded}
+use Rattle.gx_exec_reads.specs.ScriptNameLaws.{statement-found}
+use Rattle.gx_exec_reads.specs.OneDemandLaws.{blocks_of_phases}
 
 module _ (w : World) (p : Planned) (setting : IsSetting w p) (quiet : AreQuietBelow w p (length p.lineage.nodes)) (a : ℕ) where
   -- the contents of the blocks that a statement demands

@@ -18,7 +18,7 @@ use Rattle.gx_types_stmts.specs.declared.checked_stmt.CheckedStmt.{CheckedStmt}
 use Rattle.gx_types_stmts.specs.declared.typed_stmt.TypedStmt.{TypedStmt}
 use Rattle.gx_types_stmts.specs.declared.typed_stmt.TypedStmt.TheVariants as stmts
 use Rattle.gx_exec_reads.specs.Actions.{IsAction}
-use Rattle.gx_exec_reads.proofs.NamesInScript.{statement-found}
+use Rattle.gx_exec_reads.specs.ScriptNameLaws.{statement-found}
 
 -- ---- which statements are actions
 

@@ -8,12 +8,12 @@ use Rattle.gx_plan.specs.Recipes.{recipe_of}
 use Rattle.gx_plan.specs.StmtNodes.{statement_of}
 use Rattle.gx_plan.specs.declared.kind.Kind.{Kind}
 use Rattle.gx_plan.specs.declared.kind.Kind.TheVariants as kind
-use Rattle.gx_plan.proofs.SortedScripts.{sorted-owned}
+use Rattle.gx_plan.specs.SortedScriptLaws.{sorted-owned}
 use Rattle.gx_types_stmts.specs.declared.typed_stmt.TypedStmt.{TypedStmt}
 use Rattle.gx_types_stmts.specs.declared.typed_stmt.TypedStmt.TheVariants as stmts
 use Rattle.gx_exec_contents.specs.Worlds.{IsWorld, World, places_in, placed_values, value_in}
-use Rattle.gx_exec_contents.proofs.StatementValues.{value_in-stmt}
-use Rattle.gx_exec_reads.proofs.NamesInScript.{statement-found}
+use Rattle.gx_exec_contents.specs.StatementValueLaws.{value_in-stmt}
+use Rattle.gx_exec_reads.specs.ScriptNameLaws.{statement-found}
 
 unmade-vertices : (placement : Placement ℕ) (loads : LoadedRows) (vs : List (Graph ℕ)) (s : ℕ) (st : TypedStmt) → makes_kind kind.Vertices st ≡ false → (value_of_stmt placement loads vs s st).vertices ≡ []
 unmade-vertices placement loads vs s (stmts.Vertices file) none = absurd cc

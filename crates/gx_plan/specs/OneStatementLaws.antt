@@ -18,10 +18,10 @@ use Rattle.gx_plan.specs.declared.kind.Kind.{Kind}
 use Rattle.gx_plan.specs.declared.kind.Kind.TheVariants.{Vertices, Edges}
 use Rattle.gx_plan.specs.declared.recipe.Recipe.{Recipe}
 use Rattle.gx_plan.specs.declared.result_nodes.ResultNodes.{ResultNodes}
-use Rattle.gx_plan.proofs.NamedStatements.{feeds-named, inherits-named}
-use Rattle.gx_plan.proofs.Nodes.{node-more}
-use Rattle.gx_plan.proofs.OneNode.{pushed}
-use Rattle.gx_plan.proofs.OwnNodes.{IsOwnFound, is_kind-same, own-found}
+use Rattle.gx_plan.specs.NamedStatementLaws.{feeds-named, inherits-named}
+use Rattle.gx_plan.specs.NodeLaws.{node-more}
+use Rattle.gx_plan.specs.OneNodeLaws.{pushed}
+use Rattle.gx_plan.specs.OwnNodeLaws.{IsOwnFound, is_kind-same, own-found}
 
 -- ---- several nodes, one after the other
 

@@ -13,7 +13,7 @@ use Rattle.gx_plan.specs.Recipes.{recipe_of}
 use Rattle.gx_plan.specs.StmtNodes.{demanded_by, own_kinds, own_recipes, statement_of}
 use Rattle.gx_plan.specs.declared.kind.Kind.{Kind}
 use Rattle.gx_plan.specs.declared.recipe.Recipe.{Recipe}
-use Rattle.gx_plan.proofs.OneStatement.{added-front}
+use Rattle.gx_plan.specs.OneStatementLaws.{added-front}
 use Rattle.gx_rows.specs.declared.fault.Fault.{Fault}
 use Rattle.gx_types_stmts.specs.declared.checked_stmt.CheckedStmt.{CheckedStmt}
 use Rattle.gx_types_stmts.specs.declared.typed_stmt.TypedStmt.{TypedStmt}
@@ -24,11 +24,11 @@ use Rattle.gx_exec_contents.specs.Worlds.{IsSetting, World, loaded_in, value_in}
 use Rattle.gx_exec_work.specs.Works.{PlannedWorld}
 use Rattle.gx_exec.specs.Courses.{Course, fault_of_phase, forced, forced_all, joined, phase, phases, still, was_added}
 use Rattle.gx_exec.specs.Engines.{AreQuiet, IsSteady, MayForce}
-use Rattle.gx_exec.proofs.CourseRuns.{front-same, joined-front}
-use Rattle.gx_exec.proofs.FreshStatements.{fresh-result}
-use Rattle.gx_exec.proofs.PhaseOrder.{demanded-added, demanded-earlier, fresh-front, nodes_from, phases-are, recipes-after}
-use Rattle.gx_exec.proofs.ModelFaults.{model-fault}
-use Rattle.gx_exec.proofs.QuietPlans.{quiet-fault}
+use Rattle.gx_exec.specs.CourseRunLaws.{front-same, joined-front}
+use Rattle.gx_exec.specs.FreshStatementLaws.{fresh-result}
+use Rattle.gx_exec.specs.PhaseOrderLaws.{demanded-added, demanded-earlier, fresh-front, nodes_from, phases-are, recipes-after}
+use Rattle.gx_exec.specs.ModelFaultLaws.{model-fault}
+use Rattle.gx_exec.specs.QuietPlanLaws.{quiet-fault}
 
 -- ---- the plan of a course
 

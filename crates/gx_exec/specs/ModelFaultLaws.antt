@@ -7,8 +7,8 @@ use Rattle.gx_plan.specs.StmtNodes.{own_kinds}
 use Rattle.gx_exec_contents.specs.PartContents.{fault_kind, first_given}
 use Rattle.gx_exec_contents.specs.PhaseFaults.{fault_of_stop}
 use Rattle.gx_exec_contents.specs.Worlds.{World, loaded_in, value_in}
-use Rattle.gx_exec_contents.proofs.LeastOfParts.{own-faults_are_of_model}
-use Rattle.gx_exec_contents.proofs.ValuesWithoutPlaces.{faults-are_plain}
+use Rattle.gx_exec_contents.specs.PartFaultLaws.{own-faults_are_of_model}
+use Rattle.gx_exec_contents.specs.PlaceLaws.{faults-are_plain}
 
 -- the first fault of a statement's own nodes is its fault, over values without places
 pub model-fault : (w : World) (s : ℕ) (st : TypedStmt)

@@ -13,8 +13,8 @@ use Rattle.gx_exec_contents.specs.BlockContents.{content_of, recipe_of_block, st
 use Rattle.gx_exec_contents.specs.PartContents.{BlockStop, held_kind, stop_in, stop_or}
 use Rattle.gx_exec_contents.specs.PhaseFaults.{AreQuietBelow, fault_in, least_over}
 use Rattle.gx_exec_contents.specs.Worlds.{IsSetting, World, value_in}
-use Rattle.gx_exec_contents.proofs.GrownPlans.{contents-kept}
-use Rattle.gx_exec_contents.proofs.StopsOfNodes.{quiet-nodes_go_on, stops-are_faults}
+use Rattle.gx_exec_contents.specs.GrownPlanLaws.{contents-kept}
+use Rattle.gx_exec_contents.specs.NodeStopLaws.{quiet-nodes_go_on, stops-are_faults}
 use Rattle.gx_exec_work.specs.Works.{PlannedWorld}
 use Rattle.gx_exec.specs.Phases.{AreInOrder, AreNext, AreUnstopped, MayJudge}
 

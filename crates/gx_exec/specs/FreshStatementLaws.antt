@@ -6,7 +6,7 @@ use Rattle.gx_plan.specs.PlanInvariant.{IsPlan}
 use Rattle.gx_plan.specs.Plans.{IsAdded, Planned, result_of, with_number, with_recipes}
 use Rattle.gx_plan.specs.StmtNodes.{own_recipes, statement_of}
 use Rattle.gx_plan.specs.declared.result_nodes.ResultNodes.{ResultNodes}
-use Rattle.gx_plan.proofs.OneStatement.{results-kept}
+use Rattle.gx_plan.specs.OneStatementLaws.{results-kept}
 use Rattle.gx_types_stmts.specs.declared.checked_stmt.CheckedStmt.{CheckedStmt}
 use Rattle.gx_exec.specs.Courses.{was_added}
 

@@ -10,7 +10,7 @@ use Rattle.gx_cuts.specs.Mixing.{mix_of}
 use Rattle.gx_model.specs.Graphs.{Vertex, plain_edges}
 use Rattle.gx_rows.specs.Order.{Edge}
 use Rattle.gx_exec_contents.specs.PartContents.{part_of_edges, part_of_vertices}
-use Rattle.gx_exec_contents.proofs.EndsOfParts.{ArePlaced}
+use Rattle.gx_exec_contents.specs.PartEndLaws.{ArePlaced}
 
 no_pieces : {X : Type 0} (js : List ℕ) → flat_map {A = X} (λ j. []) js ≡ []
 no_pieces [] = refl

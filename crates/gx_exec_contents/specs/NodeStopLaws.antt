@@ -10,8 +10,8 @@ use Rattle.gx_exec_contents.specs.BlockContents.{fault_by, recipe_of_block, stop
 use Rattle.gx_exec_contents.specs.PartContents.{BlockStop, first_given}
 use Rattle.gx_exec_contents.specs.PhaseFaults.{AreQuietBelow, QuietNodesGoOn, StopsAreFaults, least_over, lesser_of}
 use Rattle.gx_exec_contents.specs.Worlds.{IsSetting, World}
-use Rattle.gx_exec_contents.proofs.LeastOfParts.{least-are_faults}
-use Rattle.gx_exec_contents.proofs.StoppedBlocks.{stop_of-is}
+use Rattle.gx_exec_contents.specs.PartFaultLaws.{least-are_faults}
+use Rattle.gx_exec_contents.specs.StoppedBlockLaws.{stop_of-is}
 
 given-none : (f : BlockId → Option BlockStop) (bs : List BlockId) → ((b : BlockId) → Contains bs b → f b ≡ None) → first_given f bs ≡ None
 given-none f [] none = refl
