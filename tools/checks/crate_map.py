@@ -135,7 +135,7 @@ def check_citations():
     for folder in sorted(it.parent for it in TOP.glob("crates/*/src")):
         found = []
         for kind in ("src", "specs", "proofs"):
-            for file in sorted(it for it in folder.glob(f"{kind}/**/*") if it.suffix in (".antt", ".rt")):
+            for file in sorted(folder.glob(f"{kind}/**/*.*t")):
                 others = {it for it in OF_PROOFS.findall(file.read_text()) if it.startswith("gx")}
                 if others - {folder.name}:
                     found.append(str(file.relative_to(folder)))
