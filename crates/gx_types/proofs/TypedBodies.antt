@@ -19,7 +19,7 @@ use Rattle.gx_types.specs.Built.{is_built, is_run}
 use Rattle.gx_types.specs.SoundStmts.{HasFewColumns, HasWrittenCut}
 use Rattle.gx_types.specs.StmtSorts.{named_sorts, sort_made, sort_of_types}
 use Rattle.gx_types_exprs.specs.ExprScopes.{ScopeNames, vertex_scope, triplet_scope, edge_scope, join_scope, outer_join_scope, program_scope}
-use Rattle.gx_types_stmts.specs.Constants.{constant_row}
+use Rattle.gx_types_stmts.specs.Constants.{const_kind, constant_row}
 use Rattle.gx_types_stmts.specs.Makes.{OperandTypes, is_of_sort}
 use Rattle.gx_types_stmts.specs.Merging.{first_kinds, given_columns, grouped_columns, have_merges, merged_columns, message_columns, take_each}
 use Rattle.gx_types_stmts.specs.NamedParts.{UsedName, named_parts}
@@ -69,8 +69,8 @@ zip-few [] ys = omega arith
 zip-few (x ∷ xs) [] = omega arith
 zip-few (x ∷ xs) (y ∷ ys) = let rest = zip-few xs ys in omega (arith, rest)
 
-one-few : (c : Column) → length (c ∷ []) ≤ 16
-one-few c = omega arith
+one-few : 1 ≤ 16
+one-few = omega arith
 
 -- as many columns as names
 mapped-few : {A B C : Type 0} (f : A → B) (g : A → C) (xs : List A) → length (map f xs) ≤ 16 → length (map g xs) ≤ 16
@@ -122,7 +122,7 @@ pub record FitsWritten (a b : OperandTypes) (s : Stmt) (st : TypedStmt) (made : 
 pub body-fits : (a b : OperandTypes) (s : Stmt) → IfOk (typed_body a b s) (λ t. FitsWritten a b s t.stmt t.made)
 body-fits a b (stmts.Vertices name file cs) = record { sorts = refl; makes = refl; run = refl; cut = tt; few = λ p q n. (mapped-few (λ (c : ColumnDecl). c.name) (λ (c : ColumnDecl). (c.name, c.kind)) cs n, tt) }
 body-fits a b (stmts.Edges name file cs) = record { sorts = refl; makes = refl; run = refl; cut = tt; few = λ p q n. (tt, mapped-few (λ (c : ColumnDecl). c.name) (λ (c : ColumnDecl). (c.name, c.kind)) cs n) }
-body-fits a b (stmts.EdgeList name file o) = record { sorts = refl; makes = refl; run = refl; cut = tt; few = λ p q n. (tt, one-few _) }
+body-fits a b (stmts.EdgeList name file o) = record { sorts = refl; makes = refl; run = refl; cut = tt; few = λ p q n. (tt, one-few) }
 body-fits a b (stmts.Graph name vs es default) =
     after-step _ (constant_row a.vertices default) _ (λ row. record { sorts = refl; makes = refl; run = refl; cut = tt; few = λ p q n. (p.0, q.1) })
 body-fits a b (stmts.FromEdges name es row) = record { sorts = refl; makes = refl; run = refl; cut = tt; few = λ p q n. (mapped-few (λ (c : ColumnConst). c.name) (λ (c : ColumnConst). (c.name, const_kind c.value)) row n, p.1) }
@@ -153,10 +153,10 @@ body-fits a b (stmts.OuterJoin name g t default ss) =
 body-fits a b (stmts.Aggregate name g cs ms) =
     after-step _ (typed_sends (triplet_scope a.vertices a.edges) 0 cs) _ (λ s. after-fact (message_columns ms s.kinds) (λ cs. length cs ≤ length ms) _ _ (message-few ms s.kinds)
     (λ message h. record { sorts = refl; makes = refl; run = refl; cut = tt; few = λ p q n. (within-few (λ (m : ColumnMerge). m.name) ms message h n, tt) }))
-body-fits a b (stmts.InDegrees name g) = record { sorts = refl; makes = refl; run = refl; cut = tt; few = λ p q n. (one-few _, tt) }
-body-fits a b (stmts.OutDegrees name g) = record { sorts = refl; makes = refl; run = refl; cut = tt; few = λ p q n. (one-few _, tt) }
-body-fits a b (stmts.Degrees name g) = record { sorts = refl; makes = refl; run = refl; cut = tt; few = λ p q n. (one-few _, tt) }
-body-fits a b (stmts.Neighbours name g d) = record { sorts = refl; makes = refl; run = refl; cut = tt; few = λ p q n. (one-few _, tt) }
+body-fits a b (stmts.InDegrees name g) = record { sorts = refl; makes = refl; run = refl; cut = tt; few = λ p q n. (one-few, tt) }
+body-fits a b (stmts.OutDegrees name g) = record { sorts = refl; makes = refl; run = refl; cut = tt; few = λ p q n. (one-few, tt) }
+body-fits a b (stmts.Degrees name g) = record { sorts = refl; makes = refl; run = refl; cut = tt; few = λ p q n. (one-few, tt) }
+body-fits a b (stmts.Neighbours name g d) = record { sorts = refl; makes = refl; run = refl; cut = tt; few = λ p q n. (one-few, tt) }
 body-fits a b (stmts.Pregel name g rounds w ms initial program cs) =
     after-step _ (typed_sends (triplet_scope a.vertices a.edges) (sum (map node_count (column_values program))) cs) _ (λ s. after-step _ (message_columns ms s.kinds) _
     (λ message. after-step _ (constant_row message initial) _ (λ row. after-step _ (typed_sets (program_scope a.vertices message) program) _
