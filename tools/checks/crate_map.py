@@ -8,6 +8,8 @@ README.md that begins with `**In short:**`. Of both,
   group and for each crate, and README.md a row for each group. tools/crate-map writes them;
 - docs/architecture.md has there, by hand, a line that starts with `**NAME**` for each group; its
   crates are those named in backticks in it and in the lines up to the next group.
+
+No crate cites the proofs of another: what the crates above cite stands in specs/.
 """
 
 import re
@@ -126,3 +128,19 @@ def check_map():
         judge("docs/architecture.md, map of the crates", other_layers(groups))
     except ValueError as error:
         judge("map of the crates", str(error))
+
+
+OF_PROOFS = re.compile(r"Rattle\.(\w+)\.proofs\b")
+
+
+def check_citations():
+    """Of each crate, the files that cite the proofs of another crate."""
+    for folder in sorted(it.parent for it in TOP.glob("crates/*/src")):
+        found = []
+        for kind in ("src", "specs", "proofs"):
+            for file in sorted(folder.glob(f"{kind}/**/*.*t")):
+                others = {it for it in OF_PROOFS.findall(file.read_text()) if it.startswith("gx")}
+                if others - {folder.name}:
+                    found.append(str(file.relative_to(folder)))
+        problem = f"cited in {', '.join(found)}" if found else None
+        judge(f"{folder.relative_to(TOP)}, proofs of other crates", problem)

@@ -7,9 +7,9 @@ use Rattle.gx_lineage.specs.declared.block_id.BlockId.{BlockId}
 use Rattle.gx_cluster_state.specs.Blocks.{same_block}
 use Rattle.gx_cluster_state.specs.Nets.{Net, IsLeastReady, IsReady, IsStuck, Wanted}
 use Rattle.gx_cluster_state.specs.Shapes.{Shape, finished, is_held, is_running, started}
-use Rattle.gx_cluster_state.proofs.Changes.{is_held-finished, is_held-started, is_running-busy, is_running-finished, is_running-started}
-use Rattle.gx_cluster_state.proofs.SameBlocks.{same_exact}
-use Rattle.gx_cluster_state.proofs.WantedBlocks.{wanted_missing, wanted_moves}
+use Rattle.gx_cluster_state.specs.ChangeLaws.{is_held-finished, is_held-started, is_running-busy, is_running-finished, is_running-started}
+use Rattle.gx_cluster_state.specs.BlockLaws.{same_exact}
+use Rattle.gx_cluster_state.specs.WantedBlockLaws.{wanted_missing, wanted_moves}
 use Rattle.gx_cluster.specs.Agendas.{BlockAgenda, IsAgenda, IsListed, IsOpen, Pops, Waits, has_block, is_pending, is_ready, is_waiting, waiting_for}
 use Rattle.gx_cluster.proofs.Members.{both, or_second, same_sym}
 

@@ -5,7 +5,7 @@ use Rattle.gx_lineage.specs.declared.block_id.BlockId.{BlockId}
 use Rattle.gx_cluster_state.specs.Blocks.{same_block}
 use Rattle.gx_cluster_state.specs.Nets.{Net, IsReady}
 use Rattle.gx_cluster_state.specs.Shapes.{Shape, is_held}
-use Rattle.gx_cluster_state.proofs.SameBlocks.{same_exact}
+use Rattle.gx_cluster_state.specs.BlockLaws.{same_exact}
 use Rattle.gx_cluster.specs.Agendas.{BlockAgenda, IsAgenda, IsListed, Waits, has_block, is_pending, is_ready, is_waiting, waiting_for}
 use Rattle.gx_cluster.proofs.Members.{cond_or, has_push_cases, has_push_kept, has_push_last, or_cases, or_first, or_second, same_itself, same_sym}
 

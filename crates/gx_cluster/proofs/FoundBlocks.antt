@@ -10,7 +10,7 @@ use Rattle.gx_lineage.specs.Lineage.{Lineage, IsBlock, IsSound, block_inputs}
 use Rattle.gx_cluster_state.specs.Blocks.{block_cmp, same_block}
 use Rattle.gx_cluster_state.specs.Nets.{Net, Wanted, target, input}
 use Rattle.gx_cluster_state.specs.Shapes.{Shape, is_running}
-use Rattle.gx_cluster_state.proofs.SameBlocks.{same_exact}
+use Rattle.gx_cluster_state.specs.BlockLaws.{same_exact}
 use Rattle.gx_cluster.specs.Agendas.{IsOpen, has_block}
 use Rattle.gx_cluster.specs.Sweeps.{AddsMissing, IsAddedFrom, IsReached, IsSweep, block_height, block_number, in_front, is_missing, runs, was_found, was_there}
 use Rattle.gx_cluster.proofs.Members.{both, has_push_cases, has_push_kept, has_push_last, or_cases, or_first, or_second, same_itself}

@@ -1,10 +1,7 @@
 pub mod AgendaTurns
 pub mod FiledBlocks
 pub mod FoundBlocks
-pub mod LineageBlocks
 pub mod Lists
 pub mod Members
 pub mod MissingBlocks
-pub mod ShapeOf
-pub mod StateChanges
 pub mod TurnSteps

@@ -6,7 +6,7 @@ use Rattle.std.proofs.lemmas.List.Folds.{list_any-append}
 use Rattle.std.proofs.lemmas.Map.Views.{Contains-from_any, list_any-from_Contains}
 use Rattle.gx_lineage.specs.declared.block_id.BlockId.{BlockId}
 use Rattle.gx_cluster_state.specs.Blocks.{same_block}
-use Rattle.gx_cluster_state.proofs.SameBlocks.{same_block_laws, same_exact}
+use Rattle.gx_cluster_state.specs.BlockLaws.{same_block_laws, same_exact}
 use Rattle.gx_cluster.specs.Agendas.{has_block}
 
 pub both : {b : Bool} {A : Type 0} → b ≡ true → b ≡ false → A

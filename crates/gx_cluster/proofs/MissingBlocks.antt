@@ -6,7 +6,7 @@ use Rattle.std.proofs.lemmas.List.Elements.{All-more, All-nil, Contains-append_l
 use Rattle.gx_lineage.specs.declared.block_id.BlockId.{BlockId}
 use Rattle.gx_cluster_state.specs.Blocks.{same_block}
 use Rattle.gx_cluster_state.specs.Shapes.{Shape, is_held}
-use Rattle.gx_cluster_state.proofs.SameBlocks.{same_block_laws, same_exact}
+use Rattle.gx_cluster_state.specs.BlockLaws.{same_block_laws, same_exact}
 use Rattle.gx_cluster.specs.Agendas.{has_block}
 use Rattle.gx_cluster.proofs.Members.{both, cond_or}
 use Rattle.gx_cluster.specs.Sweeps.{AddsMissing, IsAddedFrom, is_missing, was_there}

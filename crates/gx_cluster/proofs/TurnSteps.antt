@@ -8,8 +8,8 @@ use Rattle.gx_cluster_state.specs.Blocks.{same_block}
 use Rattle.gx_cluster_state.specs.Nets.{Net, IsLeastReady, IsStuck, net_of}
 use Rattle.gx_cluster_state.specs.Shapes.{Shape, all_held, finished, is_held, started}
 use Rattle.gx_cluster_state.specs.Turns.{ended, taken}
-use Rattle.gx_cluster_state.proofs.Changes.{is_held-finished, is_held-started}
-use Rattle.gx_cluster_state.proofs.WantedBlocks.{turns_then}
+use Rattle.gx_cluster_state.specs.ChangeLaws.{is_held-finished, is_held-started}
+use Rattle.gx_cluster_state.specs.WantedBlockLaws.{turns_then}
 use Rattle.gx_cluster.specs.Agendas.{BlockAgenda, IsAgenda, waiting_for}
 use Rattle.gx_cluster.specs.States.{HoldsContents, IsAfterTurns, State, shape}
 use Rattle.gx_cluster.proofs.AgendaTurns.{TakesWaiting, finished_agenda, stuck_by_empty}

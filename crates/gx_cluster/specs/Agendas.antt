@@ -39,10 +39,13 @@ pub data IsListed (a : BlockAgenda) (pending : List BlockId) (b : BlockId) : Typ
   is_waiting : (c : BlockId) → has_block (waiting_for a.waiting c) b ≡ true → IsListed a pending b
   is_pending : has_block pending b ≡ true → IsListed a pending b
 
--- an agenda lists the wanted blocks that do not run, but for the pending ones, which are still to be filed
-pub record IsAgenda (n : Net) (targets : List BlockId) (s : Shape) (a : BlockAgenda) (pending : List BlockId) : Type 0 where
+-- an agenda lists the wanted blocks that do not run, but for the pending ones, which are still to
+-- be filed
+pub record IsAgenda (n : Net) (targets : List BlockId) (s : Shape) (a : BlockAgenda)
+    (pending : List BlockId) : Type 0 where
   pub ready : (b : BlockId) → has_block a.ready b ≡ true → IsReady n targets s b
-  pub waiting : (c b : BlockId) → has_block (waiting_for a.waiting c) b ≡ true → Waits n targets s c b
+  pub waiting : (c b : BlockId) → has_block (waiting_for a.waiting c) b ≡ true
+      → Waits n targets s c b
   pub unfiled : (b : BlockId) → has_block pending b ≡ true → IsOpen n targets s b
   pub complete : (b : BlockId) → IsOpen n targets s b → IsListed a pending b
 
@@ -50,5 +53,6 @@ pub record IsAgenda (n : Net) (targets : List BlockId) (s : Shape) (a : BlockAge
 pub record Pops (old new : BlockAgenda) (b : BlockId) : Type 0 where
   pub there : has_block old.ready b ≡ true
   pub least : (q : BlockId) → has_block old.ready q ≡ true → is_gt (block_cmp b q) ≡ false
-  pub rest : (q : BlockId) → has_block new.ready q ≡ cond (same_block b q) false (has_block old.ready q)
+  pub rest : (q : BlockId)
+      → has_block new.ready q ≡ cond (same_block b q) false (has_block old.ready q)
   pub waiting_kept : new.waiting ≡ old.waiting

@@ -1,3 +1,5 @@
 pub mod Agendas
+pub mod ShapeLaws
+pub mod StateLaws
 pub mod States
 pub mod Sweeps

@@ -1,11 +1,31 @@
 -- What contracts see of a cluster.
-use Rattle.std.specs.Prelude.{◌≡◌, ◌==◌, ◌-◌, ℕ, List, [], ◌∷◌, ◌++◌, true, Option, None, Some, filter, length, map, not, option_map, set, slice_get}
-use Rattle.std.specs.List.{AllZip, flat_map, range_with_len}
+use Rattle.std.specs.Prelude.{
+  ◌≡◌,
+  ◌==◌,
+  ◌-◌,
+  ℕ,
+  List,
+  [],
+  ◌∷◌,
+  ◌++◌,
+  true,
+  Option,
+  None,
+  Some,
+  filter,
+  length,
+  map,
+  not,
+  option_map,
+  set,
+  slice_get,
+}
+use Rattle.std.specs.List.{AllZip}
 use Rattle.std.specs.BTreeMap.{insert_entry}
 use Rattle.std.specs.Map.{lookup}
 use Rattle.gx_rows.specs.declared.vid.Vid.{Vid}
 use Rattle.gx_lineage.specs.declared.block_id.BlockId.{BlockId}
-use Rattle.gx_lineage.specs.Lineage.{Lineage, IsBlock, block_inputs, blocks_at}
+use Rattle.gx_lineage.specs.Lineage.{Lineage, IsBlock, block_inputs}
 use Rattle.gx_lineage.specs.declared.node_id.NodeId.{NodeId}
 use Rattle.gx_cluster_state.specs.declared.held.Held.{Held}
 use Rattle.gx_cluster_state.specs.declared.log_entry.LogEntry.{LogEntry}
@@ -28,7 +48,12 @@ pub record State (A : Type 0) : Type 0 where
 
 -- the cluster without its values
 unfoldable pub shape : {A : Type 0} → State A → Shape
-shape s = record { held = map (λ e. (e.0, e.1.worker)) s.held; running = map task_block s.running; log = s.log }
+shape s = record {
+  held = map (λ e. (e.0, e.1.worker)) s.held;
+  running =
+      map task_block s.running;
+  log = s.log;
+}
 
 -- the value of a held block
 abbrev pub held_value : {A : Type 0} → List (BlockId × Held A) → BlockId → Option A
@@ -65,25 +90,21 @@ with_release s n = record {
 abbrev pub AreContents : {A : Type 0} → (BlockId → A → Type 0) → List BlockId → List A → Type 0
 AreContents content bs vs = AllZip content bs vs
 
--- each held value is a content of its block, each running block is in the lineage, and its inputs are contents
-pub record HoldsContents {A : Type 0} (content : BlockId → A → Type 0) (l : Lineage) (s : State A) : Type 0 where
+-- each held value is a content of its block, each running block is in the lineage, and its inputs
+-- are contents
+pub record HoldsContents {A : Type 0} (content : BlockId → A → Type 0) (l : Lineage)
+    (s : State A) : Type 0 where
   pub held : (b : BlockId) (h : Held A) → lookup (same_block b) s.held ≡ Some h → content b h.value
   pub blocks : (w : ℕ) (r : Running A) → slice_get s.running w ≡ Some (Some r) → IsBlock l r.block
-  pub inputs : (w : ℕ) (r : Running A) → slice_get s.running w ≡ Some (Some r) → AreContents content (block_inputs l r.block) r.inputs
+  pub inputs : (w : ℕ) (r : Running A) → slice_get s.running w ≡ Some (Some r)
+      → AreContents content (block_inputs l r.block) r.inputs
 
 -- what turns without events lead to: contents are kept, and so is all that is held
-pub record IsAfterTurns {A : Type 0} (content : BlockId → A → Type 0) (l : Lineage) (freight : BlockId → List (ℕ × Vid))
+pub record IsAfterTurns {A : Type 0} (content : BlockId → A → Type 0) (l : Lineage)
+    (freight : BlockId → List (ℕ × Vid))
     (targets : List BlockId) (old new : State A) : Type 0 where
   pub contents : HoldsContents content l new
   pub turns : Turns (net_of l freight) targets (shape new) [] (shape old) []
   pub held_kept : (b : BlockId) → is_held (shape old) b ≡ true → is_held (shape new) b ≡ true
   pub spare_kept : new.spare ≡ old.spare
   pub workers_kept : length new.running ≡ length old.running
-
--- the nodes of a lineage
-abbrev pub node_ids : List ℕ → List NodeId
-node_ids ns = map (λ n. record { 0 = n }) ns
-
--- all blocks of a lineage
-abbrev pub lineage_blocks : Lineage → List BlockId
-lineage_blocks l = flat_map (λ n. blocks_at n (range_with_len 0 l.parts)) (node_ids (range_with_len 0 (length l.nodes)))

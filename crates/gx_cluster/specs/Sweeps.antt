@@ -12,11 +12,14 @@ pub data IsReached (s : Shape) (front found : List BlockId) (b : BlockId) : Type
   was_found : has_block found b ≡ true → IsReached s front found b
 
 -- a search that has found some blocks, and has still to look at those in front
-pub record IsSweep (n : Net) (targets : List BlockId) (s : Shape) (front found : List BlockId) : Type 0 where
+pub record IsSweep (n : Net) (targets : List BlockId) (s : Shape)
+    (front found : List BlockId) : Type 0 where
   pub front_wanted : (b : BlockId) → has_block front b ≡ true → Wanted n targets s b
   pub found_open : (b : BlockId) → has_block found b ≡ true → IsOpen n targets s b
-  pub targets_reached : (b : BlockId) → Contains targets b → is_held s b ≡ false → IsReached s front found b
-  pub inputs_reached : (b c : BlockId) → has_block found b ≡ true → Contains (n.inputs b) c → is_held s c ≡ false
+  pub targets_reached : (b : BlockId) → Contains targets b → is_held s b ≡ false
+      → IsReached s front found b
+  pub inputs_reached : (b c : BlockId) → has_block found b ≡ true → Contains (n.inputs b) c
+      → is_held s c ≡ false
       → IsReached s front found c
 
 -- the block was there, or is one of those that are not held

@@ -26,12 +26,12 @@ ghost use Rattle.std.specs.Prelude.{
 ghost use Rattle.gx_rows.specs.declared.vid.Vid.{Vid};
 ghost use Rattle.gx_lineage.specs.declared.block_id.BlockId.{BlockId as Block};
 ghost use Rattle.gx_lineage.specs.Lineage.{IsBlock, IsSound};
-ghost use Rattle.gx_cluster_state.specs.Measures.{turns_left};
+ghost use Rattle.gx_cluster_state.specs.Measures.{lineage_blocks, turns_left};
 ghost use Rattle.gx_cluster_state.specs.Nets.{net_of};
 ghost use Rattle.gx_cluster_state.specs.Shapes.{all_held, is_held};
 ghost use Rattle.gx_cluster_state.specs.Turns.{Turns};
 ghost use Rattle.gx_cluster.specs.Agendas.{IsAgenda, Pops};
-ghost use Rattle.gx_cluster.specs.States.{HoldsContents, IsAfterTurns, lineage_blocks, shape};
+ghost use Rattle.gx_cluster.specs.States.{HoldsContents, IsAfterTurns, shape};
 
 use crate::agenda::Agenda;
 use crate::{Cluster, Work};

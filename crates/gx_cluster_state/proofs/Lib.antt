@@ -1,9 +1,4 @@
-pub mod Changes
-pub mod LargerNets
 pub mod OneRun
-pub mod Positions
-pub mod Progress
-pub mod SameBlocks
+pub mod PossibleRuns
+pub mod ReadyBlocks
 pub mod TurnBounds
-pub mod TurnsLeft
-pub mod WantedBlocks

@@ -10,7 +10,7 @@ use Rattle.gx_cluster_state.specs.Nets.{Net, IsLeastReady, IsStuck}
 use Rattle.gx_cluster_state.specs.Runs.{Command, Demand, Release, LogExtends, Part, Passes, Point, Run, Step}
 use Rattle.gx_cluster_state.specs.Shapes.{Shape, all_held, finished, lost, released, started, with_nothing}
 use Rattle.gx_cluster_state.specs.Turns.{Finishes, Starts, Turn, Turns, ended, taken, coming, remaining}
-use Rattle.gx_cluster_state.proofs.SameBlocks.{not_greater_same}
+use Rattle.gx_cluster_state.specs.BlockLaws.{not_greater_same}
 
 one_least : {n : Net} {ts : List BlockId} {s : Shape} {b c : BlockId} → IsLeastReady n ts s b → IsLeastReady n ts s c → b ≡ c
 one_least {b = b} {c = c} x y = not_greater_same b c (x.least c y.ready) (y.least b x.ready)

@@ -13,10 +13,10 @@ use Rattle.gx_cluster_state.specs.Measures.{AreDistinct, IsClosed, turns_for, tu
 use Rattle.gx_cluster_state.specs.Nets.{Net, Wanted, target, input}
 use Rattle.gx_cluster_state.specs.Shapes.{Shape, finished, is_held, is_running, lost, runs_block, started, with_nothing}
 use Rattle.gx_cluster_state.specs.Turns.{Turn, Turns, ended, taken, coming, remaining}
-use Rattle.gx_cluster_state.proofs.Changes.{list_any-set}
-use Rattle.gx_cluster_state.proofs.SameBlocks.{same_block_laws, same_exact}
-use Rattle.gx_cluster_state.proofs.TurnsLeft.{count_by-set, finish_lowers, or_cases, start_lowers, sum_by-le}
-use Rattle.gx_cluster_state.proofs.WantedBlocks.{wanted_missing}
+use Rattle.gx_cluster_state.specs.ChangeLaws.{list_any-set}
+use Rattle.gx_cluster_state.specs.BlockLaws.{same_block_laws, same_exact}
+use Rattle.gx_cluster_state.specs.TurnsLeftLaws.{count_by-set, finish_lowers, or_cases, start_lowers, sum_by-le}
+use Rattle.gx_cluster_state.specs.WantedBlockLaws.{wanted_missing}
 
 wanted_listed : {n : Net} {ts : List BlockId} {s : Shape} {b : BlockId} (bs : List BlockId) → IsClosed n ts bs → Wanted n ts s b → list_any (same_block b) bs ≡ true
 wanted_listed bs r (target {b = b} h f) = r.targets_listed b h
@@ -53,12 +53,13 @@ logged_turn n ts s new Next (inl p) = logged_start s new p.worker p.block p.star
 logged_turn n ts s new Next (inr p) = logged_finish n s new p.worker p.block p.finishes.is
 
 -- ---- without events
-next_lowers : (n : Net) (ts bs : List BlockId) (s new : Shape) → IsClosed n ts bs → Turn n ts s Next new → turns_left bs new < turns_left bs s
-next_lowers n ts bs s new r (inl p) =
+pub next_lowers : (n : Net) (ts bs : List BlockId) (s new : Shape) → ((b : BlockId) → Wanted n ts s b → list_any (same_block b) bs ≡ true)
+    → Turn n ts s Next new → turns_left bs new < turns_left bs s
+next_lowers n ts bs s new listed (inl p) =
     let is = p.starts.least.ready in
     subst (λ (x : Shape). turns_left bs x < turns_left bs s) (sym p.starts.is)
-    (start_lowers bs s p.worker p.block (wanted_listed bs r is.wanted) p.starts.idle (wanted_missing is.wanted) is.idle)
-next_lowers n ts bs s new r (inr p) =
+    (start_lowers bs s p.worker p.block (listed p.block is.wanted) p.starts.idle (wanted_missing is.wanted) is.idle)
+next_lowers n ts bs s new listed (inr p) =
     subst (λ (x : Shape). turns_left bs x < turns_left bs s) (sym p.finishes.is)
     (finish_lowers bs s p.worker p.block (n.freight p.block) p.finishes.busy)
 
@@ -67,7 +68,7 @@ bounded_without : {n : Net} {ts : List BlockId} {last : Shape} {left : List Even
 bounded_without bs r none ended = let no = ap length none in omega (arith, no)
 bounded_without {n = n} {ts = ts} {s = s} bs r none (taken {new = x} {es = es} h t rest) =
     let next : Turn n ts s Next x = subst (λ (z : List Event). Turn n ts s (coming z) x) none t in
-    let lower = next_lowers n ts bs s x r next in
+    let lower = next_lowers n ts bs s x (λ b w. wanted_listed bs r w) next in
     let logged = logged_turn n ts s x Next next in
     let more = bounded_without bs r (ap remaining none) rest in
     omega (arith, lower, logged, more)

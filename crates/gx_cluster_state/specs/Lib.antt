@@ -1,8 +1,16 @@
+pub mod BlockLaws
 pub mod Blocks
+pub mod ChangeLaws
+pub mod LargerNetLaws
+pub mod LineageBlockLaws
 pub mod Measures
 pub mod Nets
+pub mod PositionLaws
+pub mod ProgressLaws
 pub mod Runs
 pub mod Shapes
 pub mod Tasks
 pub mod Turns
+pub mod TurnsLeftLaws
 pub mod Values
+pub mod WantedBlockLaws

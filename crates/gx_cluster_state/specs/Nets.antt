@@ -20,7 +20,8 @@ net_of l freight = record { has = IsBlock l; inputs = block_inputs l; freight = 
 -- a target that is not held, or an input that is not held of a wanted block that does not run
 pub data Wanted (n : Net) (targets : List BlockId) (s : Shape) : BlockId → Type 0 where
   target : {b : BlockId} → Contains targets b → is_held s b ≡ false → Wanted n targets s b
-  input : {b c : BlockId} → Wanted n targets s c → is_running s c ≡ false → Contains (n.inputs c) b → is_held s b ≡ false
+  input : {b c : BlockId} → Wanted n targets s c → is_running s c ≡ false → Contains (n.inputs c) b
+      → is_held s b ≡ false
       → Wanted n targets s b
 
 -- a wanted block that does not run, and whose inputs are all held

@@ -1,5 +1,18 @@
 -- Runs of commands, and runs under a larger net.
-use Rattle.std.specs.Prelude.{◌≡◌, ◌⊎◌, ℕ, true, List, [], ◌∷◌, ◌++◌, Some, All, Contains, slice_get}
+use Rattle.std.specs.Prelude.{
+  ◌≡◌,
+  ◌⊎◌,
+  ℕ,
+  true,
+  List,
+  [],
+  ◌∷◌,
+  ◌++◌,
+  Some,
+  All,
+  Contains,
+  slice_get,
+}
 use Rattle.gx_lineage.specs.declared.block_id.BlockId.{BlockId}
 use Rattle.gx_lineage.specs.declared.node_id.NodeId.{NodeId}
 use Rattle.gx_cluster_state.specs.declared.event.Event.{Event}
@@ -12,6 +25,12 @@ use Rattle.gx_cluster_state.specs.Turns.{Turns}
 pub data Command : Type 0 where
   Demand : (targets : List BlockId) → Command
   Release : (node : NodeId) → Command
+
+-- the targets of each demand are in the net
+abbrev pub TargetsAreIn : Net → List Command → Type 0
+TargetsAreIn n [] = Unit
+TargetsAreIn n (Demand targets ∷ cs) = All n.has targets × TargetsAreIn n cs
+TargetsAreIn n (Release node ∷ cs) = TargetsAreIn n cs
 
 -- a cluster, and the events of the schedule that are left
 pub record Point : Type 0 where

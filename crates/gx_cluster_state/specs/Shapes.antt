@@ -1,5 +1,23 @@
 -- Which blocks a cluster holds and runs, and how that changes.
-use Rattle.std.specs.Prelude.{◌==◌, ℕ, Bool, false, not, List, ◌∷◌, [], ◌++◌, Option, None, Some, filter, is_some, set, slice_get, unwrap_or}
+use Rattle.std.specs.Prelude.{
+  ◌==◌,
+  ℕ,
+  Bool,
+  false,
+  not,
+  List,
+  ◌∷◌,
+  [],
+  ◌++◌,
+  Option,
+  None,
+  Some,
+  filter,
+  is_some,
+  set,
+  slice_get,
+  unwrap_or,
+}
 use Rattle.std.specs.List.{count_by, list_all, list_any}
 use Rattle.std.specs.Map.{lookup}
 use Rattle.std.specs.BTreeMap.{insert_entry}
@@ -37,7 +55,12 @@ is_running s b = list_any (runs_block b) s.running
 
 -- worker w began to run b
 unfoldable pub started : Shape → ℕ → BlockId → Shape
-started s w b = record { held = s.held; running = set s.running w (Some b); log = s.log ++ entry.Started w b ∷ [] }
+started s w b = record {
+  held = s.held;
+  running = set s.running w (Some b);
+  log =
+      s.log ++ entry.Started w b ∷ [];
+}
 
 -- worker w finished b, and holds it
 unfoldable pub finished : Shape → ℕ → BlockId → List (ℕ × Vid) → Shape
@@ -52,12 +75,18 @@ unfoldable pub lost : Shape → ℕ → Shape
 lost s w = record {
   held = filter (λ e. not (e.1 == w)) s.held;
   running = set s.running w None;
-  log = s.log ++ entry.Lost w (count_by (λ e. e.1 == w) s.held) (unwrap_or (slice_get s.running w) None) ∷ [];
+  log = s.log ++ entry.Lost w (count_by (λ e. e.1 == w) s.held)
+      (unwrap_or (slice_get s.running w) None) ∷ [];
 }
 
 -- an event changed nothing at worker w
 unfoldable pub with_nothing : Shape → ℕ → Shape
-with_nothing s w = record { held = s.held; running = s.running; log = s.log ++ entry.Nothing w ∷ [] }
+with_nothing s w = record {
+  held = s.held;
+  running = s.running;
+  log =
+      s.log ++ entry.Nothing w ∷ [];
+}
 
 -- all blocks of a node are gone
 unfoldable pub released : Shape → NodeId → Shape

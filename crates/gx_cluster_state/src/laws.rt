@@ -1,10 +1,10 @@
 //! What holds of all runs, as clauses that a caller can use.
 
-ghost use Rattle.std.specs.Prelude.{◌≡◌, ◌≤◌, ◌+◌, ◌*◌, ℕ, true, List, All, is_some, length};
+ghost use Rattle.std.specs.Prelude.{◌≡◌, ◌≤◌, ◌+◌, ◌*◌, ℕ, true, false, List, All, is_some, length};
 ghost use Rattle.std.specs.List.{count_by};
 ghost use Rattle.gx_rows.specs.declared.vid.Vid.{Vid};
 ghost use Rattle.gx_lineage.specs.declared.block_id.BlockId.{BlockId};
-ghost use Rattle.gx_lineage.specs.Lineage.{Lineage};
+ghost use Rattle.gx_lineage.specs.Lineage.{Lineage, IsBlock, IsSound};
 ghost use Rattle.gx_cluster_state.specs.declared.event.Event.{Event};
 ghost use Rattle.gx_cluster_state.specs.Measures.{IsClosed};
 ghost use Rattle.gx_cluster_state.specs.Nets.{net_of};
@@ -16,9 +16,10 @@ ghost use Rattle.gx_cluster_state.specs.Runs.{
   Point,
   Run,
   RunsIn,
+  TargetsAreIn,
 };
 ghost use Rattle.gx_cluster_state.specs.Shapes.{Shape, all_held};
-ghost use Rattle.gx_cluster_state.specs.Turns.{Turns};
+ghost use Rattle.gx_cluster_state.specs.Turns.{Turn, Turns};
 
 /// The machine is a function: the turns of a demand have one end, a list of commands has one run,
 /// and the log of a run that stopped part-way is a prefix of the log of that run.
@@ -33,6 +34,17 @@ pub fn commands_have_one_run()
     ensures prefix { (l : Lineage) (f : BlockId → List (ℕ × Vid)) (cs : List Command)
         (p q r : Point) → Passes (net_of l f) cs p q → Run (net_of l f) cs p r
         → LogExtends q.shape.log r.shape.log }
+{}
+
+/// Commands can be carried out: while a target is not held, a turn is possible under each event,
+/// and commands whose targets are in the lineage have a run.
+pub fn commands_have_a_run()
+    ensures turn { (l : Lineage) (f : BlockId → List (ℕ × Vid)) (targets : List BlockId) (s : Shape)
+        (e : Event) → IsSound l → All (IsBlock l) targets → 1 ≤ length s.running
+        → all_held s targets ≡ false → (new : Shape) × Turn (net_of l f) targets s e new }
+    ensures run { (l : Lineage) (f : BlockId → List (ℕ × Vid)) (cs : List Command) (p : Point)
+        → IsSound l → TargetsAreIn (net_of l f) cs → 1 ≤ length p.shape.running
+        → (q : Point) × Run (net_of l f) cs p q }
 {}
 
 /// A run is one under each larger lineage too.

@@ -15,7 +15,7 @@ use Rattle.gx_epart.specs.Edges.{IsEdgeOrderOf, edges_kept, edges_with_rows, rev
 use Rattle.gx_epart.specs.Numbers.{HasEdges, HasIds, IsInRange, edge_of_local, edge_of_numbers, edges_of_locals, ends_of_numbers, numbers_with_rows, reversed_local}
 use Rattle.gx_epart.proofs.DistinctEnds.{IsSetOf-permuted, IsSetOf-reversed, ends_of_numbers-with_rows}
 use Rattle.gx_epart.proofs.Locals.{HasIds-with_rows, IsInRange-reversed, edges_of_locals-reversed, length-with_rows, numbers_with_rows-edges}
-use Rattle.gx_epart.proofs.Orders.{All-kept, IsSorted-kept, length-kept, map-kept}
+use Rattle.gx_epart.specs.OrderLaws.{All-kept, IsSorted-kept, length-kept, map-kept}
 use Rattle.gx_epart.proofs.Reversing.{IsSorted-reversed, ends_cmp}
 
 module _ (extent : Extent) (ids ids' : List Vid) (rows rows' : List (List Value)) (locals locals' : List LocalEdge) (has : HasEdges extent ids rows locals)

@@ -14,7 +14,7 @@ use Rattle.gx_epart.specs.Edges.{IsEdgeOrderOf, edges_lent, sources_and_destinat
 use Rattle.gx_epart.specs.declared.extent.Extent.TheVariants.{Exact}
 use Rattle.gx_epart.specs.declared.local_edge.LocalEdge.{LocalEdge}
 use Rattle.gx_epart.specs.Numbers.{HasEdges, IsInRange, edge_of_local, edges_of_locals, rows_of}
-use Rattle.gx_epart.proofs.Orders.{then-assoc}
+use Rattle.gx_epart.specs.OrderLaws.{then-assoc}
 
 abbrev LentEdge : Type 0
 LentEdge = Vid × Vid × Bor (List Value)

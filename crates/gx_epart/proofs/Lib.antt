@@ -5,7 +5,5 @@ pub mod Ends
 pub mod Lent
 pub mod Locals
 pub mod Numbered
-pub mod Orders
 pub mod Reversing
 pub mod Traversing
-pub mod Unique

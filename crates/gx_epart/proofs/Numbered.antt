@@ -14,7 +14,7 @@ use Rattle.gx_epart.specs.Edges.{IsEdgeOrderOf}
 use Rattle.gx_epart.specs.Numbers.{HasEdges, HasIds, edge_of_numbers, edges_of_locals, ends_of_numbers, id_of_number, locals_of}
 use Rattle.gx_epart.proofs.DistinctEnds.{IsSetOf-permuted}
 use Rattle.gx_epart.proofs.Locals.{IsInRange-of, edges_of_locals-of, length-locals_of}
-use Rattle.gx_epart.proofs.Orders.{IsSorted-edge_of_numbers, numbered_cmp}
+use Rattle.gx_epart.specs.OrderLaws.{IsSorted-edge_of_numbers, numbered_cmp}
 
 pub id_of_number-at : (ids : List Vid) (n : ℕ) (v : Vid) → slice_get ids n ≡ Some v → id_of_number ids n ≡ v
 id_of_number-at ids n v at = get_or_from_slice_get ids n v (record { 0 = pos 0 }) at

@@ -16,7 +16,7 @@ use Rattle.gx_index.specs.Ids.{IsAscending}
 use Rattle.gx_epart.specs.declared.local_edge.LocalEdge.{LocalEdge}
 use Rattle.gx_epart.specs.Edges.{reversed_edge}
 use Rattle.gx_epart.specs.Numbers.{IsInRange, edge_of_local, edges_of_locals, reversed_local}
-use Rattle.gx_epart.proofs.Orders.{cmp-numbers}
+use Rattle.gx_epart.specs.OrderLaws.{cmp-numbers}
 
 -- by the number of the source, then of the destination
 abbrev pub ends_cmp : LocalEdge → LocalEdge → Ordering

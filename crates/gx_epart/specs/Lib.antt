@@ -1,2 +1,4 @@
 pub mod Edges
 pub mod Numbers
+pub mod OrderLaws
+pub mod UniqueLaws

@@ -4,6 +4,7 @@ use Rattle.std.specs.List.{AllByRecursion, flat_map, slice_get}
 use Rattle.std.specs.Option.{option_and_then}
 use Rattle.std.proofs.lemmas.List.{append-nil}
 use Rattle.gx_cluster.specs.States.{State}
+use Rattle.gx_cluster_state.specs.declared.event.Event.{Event}
 use Rattle.gx_cluster_state.specs.Nets.{Net}
 use Rattle.gx_cluster_state.specs.Runs.{Point, Run}
 use Rattle.gx_cluster_state.specs.Shapes.{all_held}
@@ -18,7 +19,8 @@ use Rattle.gx_plan.specs.Plans.{IsAdded, Planned, nodes_of, phase_at, phases_of,
 use Rattle.gx_plan.specs.Recipes.{recipe_of}
 use Rattle.gx_plan.specs.StmtNodes.{statement_of}
 use Rattle.gx_plan.specs.declared.kind.Kind.TheVariants as kind
-use Rattle.gx_plan.proofs.Fronts.{fronts-joined}
+use Rattle.gx_plan.specs.FrontLaws.{fronts-joined}
+use Rattle.gx_plan.specs.declared.recipe.Recipe.{Recipe}
 use Rattle.gx_rows.specs.declared.fault.Fault.{Fault}
 use Rattle.gx_types_stmts.specs.declared.checked_stmt.CheckedStmt.{CheckedStmt}
 use Rattle.gx_types_stmts.specs.declared.typed_stmt.TypedStmt.{TypedStmt}
@@ -30,15 +32,15 @@ use Rattle.gx_exec.specs.declared.run_stop.RunStop.{RunStop}
 use Rattle.gx_exec.specs.declared.run_stop.RunStop.TheVariants as run_stop
 use Rattle.gx_exec.specs.Courses.{Course, EndsAs, PassesAs, StopsAs, answered, fault_of_phase, forced, forced_all, joined, phase, phases, still, targets_of, was_added}
 use Rattle.gx_exec.specs.Engines.{ForcesTo, HoldsWorkOf, IsSteady, MayForce, action_answer, point_of, with_stmt}
-use Rattle.gx_exec.proofs.CourseFaults.{found-statement, front-forced, front-forced_all}
-use Rattle.gx_exec.proofs.CourseRuns.{OnCourse, course-ends, course-last, course-last_stops, course-more, course-starts, course-stops, front-same, passes-all}
+use Rattle.gx_exec.specs.CourseFaultLaws.{found-statement, front-forced, front-forced_all}
+use Rattle.gx_exec.specs.CourseRunLaws.{OnCourse, course-ends, course-last, course-last_stops, course-more, course-starts, course-stops, front-same, passes-all}
 use Rattle.gx_exec.proofs.ForcedStatements.{forced-phases}
 use Rattle.gx_exec.proofs.NeededStatements.{AreForcedTo, AreForcedTo-more, AreForcedTo-none, last-may, next-may, used-low, used-range}
 
 -- ---- statements in order
 
--- from one engine and cluster to another: statements were forced, and the rest is to come
-pub record IsForcing (a : ℕ) (e : PlannedWorld) (c : State Block) (f : PlannedWorld) (d : State Block) (rest : List ℕ) : Type 0 where
+-- from one engine and cluster with its events to another: statements were forced, and the rest is to come
+pub record IsForcing (a : ℕ) (e : PlannedWorld) (c : State Block) (es : List Event) (f : PlannedWorld) (d : State Block) (now : List Event) (rest : List ℕ) : Type 0 where
   pub world : f.world ≡ e.world
   pub front : IsFrontOf e.planned f.planned
   pub steady : IsSteady f
@@ -48,10 +50,10 @@ pub record IsForcing (a : ℕ) (e : PlannedWorld) (c : State Block) (f : Planned
   pub order : AreForcedTo (stmts_used e.world.script a) rest f.planned
   pub low : AllByRecursion (λ s. 1 ≤ s) rest
   pub fault : fault_among (loaded_in e.world) rest ≡ fault_of_action (loaded_in e.world) a
-  pub course : OnCourse e.world (forced_all e.world e.planned (stmts_used e.world.script a)) (forced_all e.world f.planned rest) (point_of c) (point_of d)
+  pub course : OnCourse e.world (forced_all e.world e.planned (stmts_used e.world.script a)) (forced_all e.world f.planned rest) (point_of c es) (point_of d now)
 
-module _ (a : ℕ) (e : PlannedWorld) (c : State Block) (world : IsWorld e.world) (low : 1 ≤ a) (high : a ≤ length e.world.script) where
-  pub IsForcing-none : IsSteady e → HoldsWorkOf e c → IsForcing a e c e c (stmts_used e.world.script a)
+module _ (a : ℕ) (e : PlannedWorld) (c : State Block) (es : List Event) (world : IsWorld e.world) (low : 1 ≤ a) (high : a ≤ length e.world.script) where
+  pub IsForcing-none : IsSteady e → HoldsWorkOf e c → IsForcing a e c es e c es (stmts_used e.world.script a)
   IsForcing-none steady contents = record {
     world = refl;
     front = front-same e.planned;
@@ -62,22 +64,22 @@ module _ (a : ℕ) (e : PlannedWorld) (c : State Block) (world : IsWorld e.world
     order = AreForcedTo-none e.world world a low high e.planned;
     low = used-low e.world world a low high;
     fault = refl;
-    course = course-starts e.world (forced_all e.world e.planned (stmts_used e.world.script a)) (point_of c);
+    course = course-starts e.world (forced_all e.world e.planned (stmts_used e.world.script a)) (point_of c es);
   }
 
-  module _ (f : PlannedWorld) (d : State Block) (left : List ℕ) (s : ℕ) (ss : List ℕ) (el : left ≡ s ∷ ss) (all : IsForcing a e c f d left) where
+  module _ (f : PlannedWorld) (d : State Block) (now : List Event) (left : List ℕ) (s : ℕ) (ss : List ℕ) (el : left ≡ s ∷ ss) (all : IsForcing a e c es f d now left) where
     pub forcing-may : MayForce f s
     forcing-may = subst (λ v. MayForce (record { world = v; planned = f.planned }) s) (sym all.world)
-        (next-may e.world world a low high f.planned s ss (subst (IsForcing a e c f d) el all).order)
+        (next-may e.world world a low high f.planned s ss (subst (IsForcing a e c es f d now) el all).order)
 
     first-none : (u v : Option Fault) → u ≡ None → v ≡ first_fault u v
     first-none u v none = rw none refl
 
-    pub forcing-more : (g : PlannedWorld) (o : State Block) → g.world ≡ f.world → IsFrontOf f.planned g.planned → IsSteady g → HoldsWorkOf g o → length o.running ≡ length d.running
+    pub forcing-more : (g : PlannedWorld) (o : State Block) (after : List Event) → g.world ≡ f.world → IsFrontOf f.planned g.planned → IsSteady g → HoldsWorkOf g o → length o.running ≡ length d.running
         → ((n : ℕ) → n ≢ s → 1 ≤ n → was_added g.planned n ≡ was_added f.planned n) → IsAdded g.planned s → fault_of_number (loaded_in f.world) s ≡ None
-        → EndsAs f.world (forced f.world f.planned s) None g.planned (point_of d) (point_of o) → IsForcing a e c g o ss
-    forcing-more g o same front steady contents workers others added none ends =
-        let h : IsForcing a e c f d (s ∷ ss) = subst (IsForcing a e c f d) el all in
+        → EndsAs f.world (forced f.world f.planned s) None g.planned (point_of d now) (point_of o after) → IsForcing a e c es g o after ss
+    forcing-more g o after same front steady contents workers others added none ends =
+        let h : IsForcing a e c es f d now (s ∷ ss) = subst (IsForcing a e c es f d now) el all in
         let range = used-range e.world world a low high s (h.order.listed s (inl refl)) in
         record {
           world = same ∙ h.world;
@@ -89,43 +91,43 @@ module _ (a : ℕ) (e : PlannedWorld) (c : State Block) (world : IsWorld e.world
           order = AreForcedTo-more (stmts_used e.world.script a) s ss f.planned g.planned front.added added h.order;
           low = h.low.1;
           fault = first-none (fault_of_number (loaded_in e.world) s) (fault_among (loaded_in e.world) ss) (subst (λ v. fault_of_number (loaded_in v) s ≡ None) h.world none) ∙ h.fault;
-          course = course-more e.world (forced_all e.world e.planned (stmts_used e.world.script a)) (forced e.world f.planned s) (λ q. forced_all e.world q ss) g.planned (point_of c) (point_of d) (point_of o)
+          course = course-more e.world (forced_all e.world e.planned (stmts_used e.world.script a)) (forced e.world f.planned s) (λ q. forced_all e.world q ss) g.planned (point_of c es) (point_of d now) (point_of o after)
               (front-forced_all e.world (forced e.world f.planned s).planned ss h.low.1) h.course
-              (subst (λ v. EndsAs v (forced v f.planned s) None g.planned (point_of d) (point_of o)) h.world ends);
+              (subst (λ v. EndsAs v (forced v f.planned s) None g.planned (point_of d now) (point_of o after)) h.world ends);
         }
 
-    pub forcing-stops : (stop : RunStop) (left : Planned) (o : State Block) → StopsAs stop f.world (forced f.world f.planned s) left (point_of d) (point_of o)
-        → StopsAs stop e.world (forced_all e.world e.planned (stmts_used e.world.script a)) left (point_of c) (point_of o)
-    forcing-stops stop left o stops =
-        let h : IsForcing a e c f d (s ∷ ss) = subst (IsForcing a e c f d) el all in
-        course-stops e.world (forced_all e.world e.planned (stmts_used e.world.script a)) (forced e.world f.planned s) (λ q. forced_all e.world q ss) stop left (point_of c) (point_of d) (point_of o)
+    pub forcing-stops : (stop : RunStop) (left : Planned) (o : State Block) (after : List Event) → StopsAs stop f.world (forced f.world f.planned s) left (point_of d now) (point_of o after)
+        → StopsAs stop e.world (forced_all e.world e.planned (stmts_used e.world.script a)) left (point_of c es) (point_of o after)
+    forcing-stops stop left o after stops =
+        let h : IsForcing a e c es f d now (s ∷ ss) = subst (IsForcing a e c es f d now) el all in
+        course-stops e.world (forced_all e.world e.planned (stmts_used e.world.script a)) (forced e.world f.planned s) (λ q. forced_all e.world q ss) stop left (point_of c es) (point_of d now) (point_of o after)
         (front-forced_all e.world (forced e.world f.planned s).planned ss h.low.1) h.course
-        (subst (λ v. StopsAs stop v (forced v f.planned s) left (point_of d) (point_of o)) h.world stops)
+        (subst (λ v. StopsAs stop v (forced v f.planned s) left (point_of d now) (point_of o after)) h.world stops)
 
     pub forcing-exact : (A B : Type 0) (stop : RunStop) → ForcesTo {A = A} (Err stop) (fault_of_number (loaded_in f.world) s) → ForcesTo {A = B} (Err stop) (fault_of_action (loaded_in e.world) a)
     forcing-exact A B (run_stop.Fault x) exact =
-        let h : IsForcing a e c f d (s ∷ ss) = subst (IsForcing a e c f d) el all in
+        let h : IsForcing a e c es f d now (s ∷ ss) = subst (IsForcing a e c es f d now) el all in
         sym h.fault ∙ ap (λ u. first_fault u (fault_among (loaded_in e.world) ss)) (subst (λ v. fault_of_number (loaded_in v) s ≡ Some x) h.world exact)
     forcing-exact A B run_stop.NoMemory exact = tt
 
     pub forcing-later : (g : PlannedWorld) → ((n : ℕ) → n ≢ s → 1 ≤ n → was_added g.planned n ≡ was_added f.planned n) → (n : ℕ) → a ≤ n → was_added g.planned n ≡ was_added e.planned n
     forcing-later g others n above =
-        let h : IsForcing a e c f d (s ∷ ss) = subst (IsForcing a e c f d) el all in
+        let h : IsForcing a e c es f d now (s ∷ ss) = subst (IsForcing a e c es f d now) el all in
         let range = used-range e.world world a low high s (h.order.listed s (inl refl)) in
         others n (λ e. absurd (omega (arith, e, above, range.0, range.1))) (omega (arith, low, above)) ∙ h.later n above
 
   -- nothing is left
-  pub forcing-ends : (f : PlannedWorld) (d : State Block) (left : List ℕ) → left ≡ [] → IsForcing a e c f d left
-      → EndsAs e.world (forced_all e.world e.planned (stmts_used e.world.script a)) None f.planned (point_of c) (point_of d)
-  forcing-ends f d left el all =
-      course-ends e.world (forced_all e.world e.planned (stmts_used e.world.script a)) f.planned (point_of c) (point_of d) (subst (IsForcing a e c f d) el all).course
+  pub forcing-ends : (f : PlannedWorld) (d : State Block) (now : List Event) (left : List ℕ) → left ≡ [] → IsForcing a e c es f d now left
+      → EndsAs e.world (forced_all e.world e.planned (stmts_used e.world.script a)) None f.planned (point_of c es) (point_of d now)
+  forcing-ends f d now left el all =
+      course-ends e.world (forced_all e.world e.planned (stmts_used e.world.script a)) f.planned (point_of c es) (point_of d now) (subst (IsForcing a e c es f d now) el all).course
 
-  pub forcing-none : (f : PlannedWorld) (d : State Block) (left : List ℕ) → left ≡ [] → IsForcing a e c f d left → fault_of_action (loaded_in e.world) a ≡ None
-  forcing-none f d left el all = sym (subst (IsForcing a e c f d) el all).fault
+  pub forcing-none : (f : PlannedWorld) (d : State Block) (now : List Event) (left : List ℕ) → left ≡ [] → IsForcing a e c es f d now left → fault_of_action (loaded_in e.world) a ≡ None
+  forcing-none f d now left el all = sym (subst (IsForcing a e c es f d now) el all).fault
 
-  pub forcing-last : (f : PlannedWorld) (d : State Block) (left : List ℕ) → left ≡ [] → IsForcing a e c f d left → MayForce f a
-  forcing-last f d left el all = subst (λ v. MayForce (record { world = v; planned = f.planned }) a) (sym all.world)
-      (last-may e.world world a low high f.planned (subst (IsForcing a e c f d) el all).order)
+  pub forcing-last : (f : PlannedWorld) (d : State Block) (now : List Event) (left : List ℕ) → left ≡ [] → IsForcing a e c es f d now left → MayForce f a
+  forcing-last f d now left el all = subst (λ v. MayForce (record { world = v; planned = f.planned }) a) (sym all.world)
+      (last-may e.world world a low high f.planned (subst (IsForcing a e c es f d now) el all).order)
 
 -- ---- the action
 

@@ -2,6 +2,7 @@
 use Rattle.std.proofs.Common.{◌≡◌, ◌≢◌, ℕ, ◌≤◌, Bool, true, false, cond, List, length, None, Result, Ok, Err, IfErr, OnOk, inl, inr, refl, sym, ap, ◌∙◌, subst}
 use Rattle.gx_cluster.specs.States.{State}
 use Rattle.gx_cluster_state.specs.Runs.{Point}
+use Rattle.gx_cluster_state.specs.declared.event.Event.{Event}
 use Rattle.gx_lineage.specs.declared.node_id.NodeId.{NodeId}
 use Rattle.gx_model.specs.ScriptMeaning.{fault_of_number}
 use Rattle.gx_plan.specs.PlanInvariant.{IsFrontOf}
@@ -13,19 +14,19 @@ use Rattle.gx_exec.specs.declared.run_stop.RunStop.{RunStop}
 use Rattle.gx_exec.specs.Courses.{Course, EndsAs, StopsAs, forced, phases, still, was_added}
 use Rattle.gx_exec.specs.Engines.{AreQuiet, ForcesTo, HoldsWorkOf, IsSteady, MayForce, point_of, with_stmt}
 use Rattle.gx_exec.specs.Phases.{AreNext}
-use Rattle.gx_exec.proofs.CourseRuns.{OnCourse}
-use Rattle.gx_exec.proofs.FreshStatements.{added-cases, added-here, others-kept}
+use Rattle.gx_exec.specs.CourseRunLaws.{OnCourse}
+use Rattle.gx_exec.specs.FreshStatementLaws.{added-cases, added-here, others-kept}
 use Rattle.gx_exec.proofs.LargerPlans.{work-kept}
-use Rattle.gx_exec.proofs.PhaseOrder.{fresh-front, phases-next}
+use Rattle.gx_exec.specs.PhaseOrderLaws.{fresh-front, phases-next}
 
 -- ---- phase by phase
 
--- phases are gone through, and these are left
-pub record IsPhased (e : PlannedWorld) (s : ℕ) (start c : State Block) (all rest : List (List NodeId)) : Type 0 where
+-- phases are gone through, and these are left; `es` and `left` are the events at the start and now
+pub record IsPhased (e : PlannedWorld) (s : ℕ) (start : State Block) (es : List Event) (c : State Block) (left : List Event) (all rest : List (List NodeId)) : Type 0 where
   pub contents : HoldsWorkOf e c
   pub workers : length c.running ≡ length start.running
   pub next : AreNext e rest
-  pub course : OnCourse e.world (phases e.world s all e.planned) (phases e.world s rest e.planned) (point_of start) (point_of c)
+  pub course : OnCourse e.world (phases e.world s all e.planned) (phases e.world s rest e.planned) (point_of start es) (point_of c left)
 
 -- ---- a plan with one more statement
 

@@ -6,7 +6,7 @@ use Rattle.std.specs.Map.{lookup}
 use Rattle.std.proofs.lemmas.Bool.Decides.{nat_tests}
 use Rattle.std.proofs.lemmas.List.Elements.{All-from_recursion}
 use Rattle.gx_cluster.specs.States.{State, held_value, shape}
-use Rattle.gx_cluster.proofs.ShapeOf.{is_held-shape}
+use Rattle.gx_cluster.specs.ShapeLaws.{is_held-shape}
 use Rattle.gx_cluster_state.specs.Blocks.{same_block}
 use Rattle.gx_cluster_state.specs.Shapes.{is_held}
 use Rattle.gx_cluster_state.specs.declared.held.Held.{Held}
@@ -22,7 +22,7 @@ use Rattle.gx_exec_work.specs.declared.block.Block.{Block}
 use Rattle.gx_exec.specs.Courses.{targets_of}
 use Rattle.gx_exec.specs.Engines.{HoldsWorkOf}
 use Rattle.gx_exec.specs.Phases.{MayJudge}
-use Rattle.gx_exec.proofs.QuietPlans.{stop_in-content}
+use Rattle.gx_exec.specs.QuietPlanLaws.{stop_in-content}
 
 pub drop_next : {X : Type 0} (xs : List X) (i : ℕ) (d : X) → i < length xs → drop i xs ≡ get_or xs i d ∷ drop (i + 1) xs
 drop_next xs i d within = rw (add-one, drop-cons xs i d) refl

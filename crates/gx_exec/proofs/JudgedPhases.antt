@@ -10,7 +10,7 @@ use Rattle.gx_rows.specs.declared.fault.Fault.{Fault}
 use Rattle.gx_exec_contents.specs.PartContents.{first_given}
 use Rattle.gx_exec_contents.specs.PhaseFaults.{fault_in, fault_of_stop, least_stop}
 use Rattle.gx_exec_contents.specs.Worlds.{IsSetting, World}
-use Rattle.gx_exec_contents.proofs.StopsOfNodes.{stops-are_faults}
+use Rattle.gx_exec_contents.specs.NodeStopLaws.{stops-are_faults}
 use Rattle.gx_exec_work.specs.Works.{PlannedWorld}
 use Rattle.gx_exec.specs.declared.run_stop.RunStop.{RunStop}
 use Rattle.gx_exec.specs.declared.run_stop.RunStop.TheVariants as run_stop

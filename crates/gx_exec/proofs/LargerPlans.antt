@@ -5,20 +5,20 @@ use Rattle.std.specs.List.{AllZip}
 use Rattle.std.proofs.lemmas.List.{length-append}
 use Rattle.std.proofs.lemmas.List.Elements.{All-weaker}
 use Rattle.gx_cluster.specs.States.{State, shape}
-use Rattle.gx_cluster.proofs.StateChanges.{runs_in}
+use Rattle.gx_cluster.specs.StateLaws.{runs_in}
 use Rattle.gx_cluster_state.specs.Nets.{net_of}
 use Rattle.gx_cluster_state.specs.Runs.{Grows}
 use Rattle.gx_cluster_state.specs.Turns.{Turns}
 use Rattle.gx_cluster_state.specs.Turns.Turns.{ended}
 use Rattle.gx_cluster_state.specs.declared.event.Event.{Event}
-use Rattle.gx_cluster_state.proofs.LargerNets.{turns_up}
+use Rattle.gx_cluster_state.specs.LargerNetLaws.{turns_up}
 use Rattle.gx_lineage.specs.Lineage.{IsBlock, block_inputs}
 use Rattle.gx_lineage.specs.declared.block_id.BlockId.{BlockId}
 use Rattle.gx_plan.specs.PlanInvariant.{IsFrontOf}
 use Rattle.gx_plan.specs.Plans.{Planned}
-use Rattle.gx_plan.proofs.Fronts.{front-inputs}
+use Rattle.gx_plan.specs.FrontLaws.{front-inputs}
 use Rattle.gx_exec_contents.specs.Worlds.{IsSetting, World}
-use Rattle.gx_exec_contents.proofs.GrownPlans.{contents-kept}
+use Rattle.gx_exec_contents.specs.GrownPlanLaws.{contents-kept}
 use Rattle.gx_exec_work.specs.Works.{IsContentOf, PlannedWorld, cargo_in, freight_of, net_in}
 use Rattle.gx_exec_work.specs.declared.block.Block.{Block}
 use Rattle.gx_exec.specs.Engines.{HoldsWorkOf, point_of}
@@ -62,24 +62,22 @@ module _ (e : PlannedWorld) (setting : IsSetting e.world e.planned) (targets : L
   inside-kept : (q : Planned) → IsFrontOf e.planned q → All (IsBlock q.lineage) targets
   inside-kept q front = All-weaker (IsBlock e.planned.lineage) (IsBlock q.lineage) (block-kept e.world e.planned q setting front) targets inside
 
-  pub none-demanded : (c : State Block) → HasDemanded e targets (point_of c) (point_of c)
-  none-demanded c q front = record { inside = inside-kept q front; turns = ended }
+  pub none-demanded : (c : State Block) (es : List Event) → HasDemanded e targets (point_of c es) (point_of c es)
+  none-demanded c es q front = record { inside = inside-kept q front; turns = ended }
 
-  has-demanded-here : (old new : State Block) (left es : List Event) → left ≡ [] → es ≡ [] → HoldsWorkOf e old
-      → Turns (net_of e.planned.lineage (freight_of e.world e.planned)) targets (shape new) left (shape old) es → HasDemanded e targets (point_of old) (point_of new)
-  has-demanded-here old new left es none_left none contents turns q front = record {
+  has-demanded-here : (old new : State Block) (left es : List Event) → HoldsWorkOf e old
+      → Turns (net_of e.planned.lineage (freight_of e.world e.planned)) targets (shape new) left (shape old) es → HasDemanded e targets (point_of old es) (point_of new left)
+  has-demanded-here old new left es contents turns q front = record {
     inside = inside-kept q front;
     turns = turns_up (net-grows e.world e.planned q setting front) inside
-        (runs_in (IsContentOf e) e.planned.lineage (freight_of e.world e.planned) old contents)
-        (subst (λ xs. Turns (net_in e.world e.planned) targets (shape new) xs (shape old) []) none_left
-        (subst (λ xs. Turns (net_in e.world e.planned) targets (shape new) left (shape old) xs) none turns));
+        (runs_in (IsContentOf e) e.planned.lineage (freight_of e.world e.planned) old contents) turns;
   }
 
 -- the same, as the code has the plan and the targets
 pub has-demanded : (e f : PlannedWorld) (setting : IsSetting e.world e.planned) (targets ts : List BlockId) (inside : All (IsBlock e.planned.lineage) targets) → f ≡ e → ts ≡ targets
-    → (old new : State Block) (left es : List Event) → left ≡ [] → es ≡ [] → HoldsWorkOf e old
-    → Turns (net_of f.planned.lineage (freight_of f.world f.planned)) ts (shape new) left (shape old) es → HasDemanded e targets (point_of old) (point_of new)
-has-demanded e f setting targets ts inside same is old new left es none_left none contents turns =
-    has-demanded-here e setting targets inside old new left es none_left none contents
+    → (old new : State Block) (left es : List Event) → HoldsWorkOf e old
+    → Turns (net_of f.planned.lineage (freight_of f.world f.planned)) ts (shape new) left (shape old) es → HasDemanded e targets (point_of old es) (point_of new left)
+has-demanded e f setting targets ts inside same is old new left es contents turns =
+    has-demanded-here e setting targets inside old new left es contents
     (subst (λ bs. Turns (net_of e.planned.lineage (freight_of e.world e.planned)) bs (shape new) left (shape old) es) is
     (subst (λ g. Turns (net_of g.planned.lineage (freight_of g.world g.planned)) ts (shape new) left (shape old) es) same turns))

@@ -1,14 +1,8 @@
 pub mod AnsweredActions
-pub mod CourseFaults
-pub mod CourseRuns
 pub mod ForcedStatements
-pub mod FreshStatements
 pub mod HeldStops
 pub mod JudgedPhases
 pub mod LargerPlans
-pub mod ModelFaults
 pub mod NeededStatements
-pub mod PhaseOrder
 pub mod PhaseSteps
-pub mod QuietPlans
 pub mod ReadActions

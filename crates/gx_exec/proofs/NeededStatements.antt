@@ -7,8 +7,8 @@ use Rattle.gx_types_stmts.specs.StmtNumbers.{named_numbers}
 use Rattle.gx_types_stmts.specs.declared.checked_stmt.CheckedStmt.{CheckedStmt}
 use Rattle.gx_types_stmts.specs.declared.typed_stmt.TypedStmt.TheVariants as stmts
 use Rattle.gx_model.specs.NamesUsed.{stmts_used}
-use Rattle.gx_model.proofs.NumberLists.{Ascends, IsIn, all_at}
-use Rattle.gx_model.proofs.UsedStatements.{IsClosedList, item_at, stmts_used-closed, stmts_used-needed, statements_are_sound}
+use Rattle.gx_model.specs.NumberListLaws.{Ascends, IsIn, all_at}
+use Rattle.gx_model.specs.UsedStatementLaws.{IsClosedList, item_at, stmts_used-closed, stmts_used-needed, statements_are_sound}
 use Rattle.gx_plan.specs.Plans.{IsAdded, Planned}
 use Rattle.gx_plan.specs.StmtNodes.{statement_of}
 use Rattle.gx_exec_contents.specs.Worlds.{IsWorld, World}

@@ -6,8 +6,8 @@ use Rattle.gx_cluster_state.specs.Shapes.{all_held}
 use Rattle.gx_exec_contents.specs.Worlds.{IsSetting, loaded_in, stmts_of}
 use Rattle.gx_exec_reads.specs.Actions.{IsAction}
 use Rattle.gx_exec_reads.specs.HeldAnswers.{answer_of_blocks, held_contents}
-use Rattle.gx_exec_reads.proofs.ActionRows.{answer-from_blocks}
-use Rattle.gx_exec_reads.proofs.OneDemand.{action-prints_at, blocks-of_action_few}
+use Rattle.gx_exec_reads.specs.ActionRowLaws.{answer-from_blocks}
+use Rattle.gx_exec_reads.specs.OneDemandLaws.{action-prints_at, blocks-of_action_few}
 use Rattle.gx_exec_work.specs.Works.{PlannedWorld}
 use Rattle.gx_exec_work.specs.declared.block.Block.{Block}
 use Rattle.gx_lineage.specs.declared.block_id.BlockId.{BlockId}

@@ -1,9 +1,10 @@
 -- The state of an engine and its cluster between calls.
-use Rattle.std.specs.Prelude.{◌≡◌, ℕ, ◌-◌, ◌≤◌, ⊤, [], Option, None, Some, Result, Ok, Err, length, slice_get}
+use Rattle.std.specs.Prelude.{◌≡◌, ℕ, ◌-◌, ◌≤◌, ⊤, List, Option, None, Some, Result, Ok, Err, length, slice_get}
 use Rattle.std.specs.List.{AllByRecursion}
 use Rattle.std.specs.Option.{option_and_then}
 use Rattle.gx_cluster.specs.States.{HoldsContents, State, shape}
 use Rattle.gx_cluster_state.specs.Runs.{Point}
+use Rattle.gx_cluster_state.specs.declared.event.Event.{Event}
 use Rattle.gx_exec_contents.specs.PhaseFaults.{AreQuietBelow}
 use Rattle.gx_exec_contents.specs.Worlds.{loaded_in, source_of}
 use Rattle.gx_exec_work.specs.Works.{IsContentOf, PlannedWorld}
@@ -40,9 +41,9 @@ pub record IsSteady (e : PlannedWorld) : Type 0 where
 abbrev pub HoldsWorkOf : PlannedWorld → State Block → Type 0
 HoldsWorkOf e c = HoldsContents (IsContentOf e) e.planned.lineage c
 
--- a cluster and a schedule without events
-abbrev pub point_of : State Block → Point
-point_of c = record { shape = shape c; events = [] }
+-- a cluster, and the events of the schedule that are left
+abbrev pub point_of : State Block → List Event → Point
+point_of c es = record { shape = shape c; events = es }
 
 -- statement s, counted from 1, of which all named statements were added
 pub record MayForce (e : PlannedWorld) (s : ℕ) : Type 0 where

@@ -1,4 +1,10 @@
 pub mod CourseExamples
+pub mod CourseFaultLaws
+pub mod CourseRunLaws
 pub mod Courses
 pub mod Engines
+pub mod FreshStatementLaws
+pub mod ModelFaultLaws
+pub mod PhaseOrderLaws
 pub mod Phases
+pub mod QuietPlanLaws

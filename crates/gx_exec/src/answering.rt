@@ -68,10 +68,10 @@ impl Engine {
         requires no_events { events.old ≡ [] }
         ensures ok { OnOk result (EndsAs self.old.world
             (answered self.old.world self.old.planned a) None self.new.planned
-            (point_of cluster.old) (point_of cluster.new)) }
+            (point_of cluster.old events.old) (point_of cluster.new events.new)) }
         ensures stop { IfErr result (λ stop. StopsAs stop self.old.world
             (answered self.old.world self.old.planned a) self.new.planned
-            (point_of cluster.old) (point_of cluster.new)) }
+            (point_of cluster.old events.old) (point_of cluster.new events.new)) }
         ensures exact { ForcesTo result (fault_of_action (loaded_in self.old.world) a) }
         ensures world_kept { self.new.world ≡ self.old.world }
         ensures front { IsFrontOf self.old.planned self.new.planned }
@@ -138,10 +138,10 @@ impl Engine {
         requires no_events { events.old ≡ [] }
         ensures ok { OnOk result (EndsAs self.old.world
             (answered self.old.world self.old.planned a) None self.new.planned
-            (point_of cluster.old) (point_of cluster.new)) }
+            (point_of cluster.old events.old) (point_of cluster.new events.new)) }
         ensures stop { IfErr result (λ stop. StopsAs stop self.old.world
             (answered self.old.world self.old.planned a) self.new.planned
-            (point_of cluster.old) (point_of cluster.new)) }
+            (point_of cluster.old events.old) (point_of cluster.new events.new)) }
         ensures exact { ForcesTo result (fault_of_action (loaded_in self.old.world) a) }
         ensures world_kept { self.new.world ≡ self.old.world }
         ensures front { IsFrontOf self.old.planned self.new.planned }
@@ -182,10 +182,10 @@ impl Engine {
         requires no_events { events.old ≡ [] }
         ensures ok { OnOk result (EndsAs self.old.world
             (forced_all self.old.world self.old.planned (stmts_used self.old.world.script a)) None
-            self.new.planned (point_of cluster.old) (point_of cluster.new)) }
+            self.new.planned (point_of cluster.old events.old) (point_of cluster.new events.new)) }
         ensures stop { IfErr result (λ stop. StopsAs stop self.old.world
             (forced_all self.old.world self.old.planned (stmts_used self.old.world.script a))
-            self.new.planned (point_of cluster.old) (point_of cluster.new)) }
+            self.new.planned (point_of cluster.old events.old) (point_of cluster.new events.new)) }
         ensures exact { ForcesTo result (fault_of_action (loaded_in self.old.world) a) }
         ensures world_kept { self.new.world ≡ self.old.world }
         ensures front { IsFrontOf self.old.planned self.new.planned }

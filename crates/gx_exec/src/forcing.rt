@@ -45,10 +45,10 @@ impl Engine {
         requires no_events { events.old ≡ [] }
         ensures ok { OnOk result (EndsAs self.old.world
             (forced self.old.world self.old.planned s) None self.new.planned
-            (point_of cluster.old) (point_of cluster.new)) }
+            (point_of cluster.old events.old) (point_of cluster.new events.new)) }
         ensures stop { IfErr result (λ stop. StopsAs stop self.old.world
             (forced self.old.world self.old.planned s) self.new.planned
-            (point_of cluster.old) (point_of cluster.new)) }
+            (point_of cluster.old events.old) (point_of cluster.new events.new)) }
         ensures exact { ForcesTo result (fault_of_number (loaded_in self.old.world) s) }
         ensures world_kept { self.new.world ≡ self.old.world }
         ensures front { IsFrontOf self.old.planned self.new.planned }
@@ -86,11 +86,11 @@ impl Engine {
         ensures ok { OnOk result (EndsAs self.now.world
             (phases self.now.world s (phases_of self.now.world.script self.now.planned s)
             self.now.planned) None self.now.planned
-            (point_of cluster.old) (point_of cluster.new)) }
+            (point_of cluster.old events.old) (point_of cluster.new events.new)) }
         ensures stop { IfErr result (λ stop. StopsAs stop self.now.world
             (phases self.now.world s (phases_of self.now.world.script self.now.planned s)
             self.now.planned) self.now.planned
-            (point_of cluster.old) (point_of cluster.new)) }
+            (point_of cluster.old events.old) (point_of cluster.new events.new)) }
         ensures quiet { OnOk result (AreQuiet self.now) }
         ensures contents_kept { HoldsWorkOf self.now cluster.new }
         ensures workers_kept { length cluster.new.running ≡ length cluster.old.running }
@@ -121,10 +121,10 @@ impl Engine {
         requires no_events { events.old ≡ [] }
         ensures ok { OnOk result (EndsAs self.now.world
             (phase self.now.world s nodes.now self.now.planned) None self.now.planned
-            (point_of cluster.old) (point_of cluster.new)) }
+            (point_of cluster.old events.old) (point_of cluster.new events.new)) }
         ensures stop { IfErr result (λ stop. StopsAs stop self.now.world
             (phase self.now.world s nodes.now self.now.planned) self.now.planned
-            (point_of cluster.old) (point_of cluster.new)) }
+            (point_of cluster.old events.old) (point_of cluster.new events.new)) }
         ensures quiet { OnOk result (AreUnstopped self.now nodes.now) }
         ensures contents_kept { HoldsWorkOf self.now cluster.new }
         ensures workers_kept { length cluster.new.running ≡ length cluster.old.running }
@@ -150,7 +150,7 @@ impl Engine {
         ensures held { OnOk result
             (all_held (shape cluster.new) (targets_of self.now.world nodes.now) ≡ true) }
         ensures turns { HasDemanded self.now (targets_of self.now.world nodes.now)
-            (point_of cluster.old) (point_of cluster.new) }
+            (point_of cluster.old events.old) (point_of cluster.new events.new) }
         ensures contents_kept { HoldsWorkOf self.now cluster.new }
         ensures workers_kept { length cluster.new.running ≡ length cluster.old.running }
         ensures events_kept { events.new ≡ events.old }

@@ -9,7 +9,7 @@
 //!
 //! To add a statement, add its line in `made_kind` (specs/MadeBlocks.antt), in `fault_kind`
 //! (specs/PartContents.antt) if it may have a fault, in `is_modelled` (specs/Worlds.antt), and in
-//! proofs/StatementValues.antt, proofs/MadeStatements.antt and proofs/LeastOfParts.antt.
+//! specs/StatementValueLaws.antt, specs/MadeStatementLaws.antt and specs/PartFaultLaws.antt.
 #![tactic(auto)]
 
 pub use gx_plan::{Kind, Recipe};

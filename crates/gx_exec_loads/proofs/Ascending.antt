@@ -11,7 +11,7 @@ use Rattle.std.proofs.Math.ListN.{get_or-map}
 use Rattle.std.proofs.lemmas.Map.Keys.{sorted_from_all_adjacent}
 use Rattle.gx_gops.specs.TableLaws.{table_of-unique}
 use Rattle.gx_gops.specs.Tables.{table_of}
-use Rattle.gx_gops.proofs.Rows.{row_at-IsPermutation}
+use Rattle.gx_gops.specs.RowLaws.{row_at-IsPermutation}
 use Rattle.gx_index.specs.Ids.{HasDistinctIds-from_ascending, IsAscending, id_cmp, id_cmp-total}
 use Rattle.gx_vpart.specs.Operators.{VertexRow}
 

@@ -6,7 +6,7 @@
 //! `gx_exec_answers` for answers from partitions. The engine calls it once the blocks of an action
 //! are held. It never sees a file, a worker or an order of work.
 //!
-//! To add an action, add its lines in specs/ and in proofs/ActionRows.antt, and its arm in
+//! To add an action, add its lines in specs/, also in specs/ActionRowLaws.antt, and its arm in
 //! `reading.rt`.
 #![tactic(auto)]
 

@@ -4,7 +4,7 @@ use Rattle.std.specs.List.{AllZip}
 use Rattle.gx_exec_contents.specs.BlockContents.{content_of, recipe_of_block}
 use Rattle.gx_exec_contents.specs.MadeBlocks.{made_by}
 use Rattle.gx_exec_contents.specs.Worlds.{IsSetting}
-use Rattle.gx_exec_contents.proofs.MadeContents.{contents-made}
+use Rattle.gx_exec_contents.specs.MadeContentLaws.{contents-made}
 use Rattle.gx_exec_work.specs.Works.{IsContentOf, PlannedWorld, shown, shown_blocks}
 use Rattle.gx_exec_work.specs.declared.block.Block.{Block}
 use Rattle.gx_lineage.specs.Lineage.{IsBlock, block_inputs}

@@ -9,7 +9,7 @@ use Rattle.gx_index.specs.Ends.{IsSetOf}
 use Rattle.gx_index.specs.Ids.{has_id, is_same_id}
 use Rattle.gx_epart.specs.Edges.{sources_and_destinations}
 use Rattle.gx_gops.specs.Tables.{HasSameIds, both_ends}
-use Rattle.gx_gops.proofs.Rows.{has_id-filter}
+use Rattle.gx_gops.specs.RowLaws.{has_id-filter}
 
 -- the next item, if it passes the test
 pub filter-more : {X : Type 0} (test : X → Bool) (kept new rest all : List X) (x : X)

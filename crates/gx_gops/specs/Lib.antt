@@ -1,4 +1,5 @@
 pub mod AllEdges
 pub mod Moving
+pub mod RowLaws
 pub mod TableLaws
 pub mod Tables

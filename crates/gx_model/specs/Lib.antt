@@ -2,8 +2,16 @@ pub mod ActionAnswers
 pub mod DataFiles
 pub mod Examples
 pub mod Graphs
+pub mod KeyLaws
+pub mod LeastFaultLaws
 pub mod NamesUsed
+pub mod NumberListLaws
+pub mod PlaceLaws
 pub mod ScriptMeaning
+pub mod StatementValueLaws
 pub mod StmtFaults
 pub mod TableExamples
+pub mod TableLaws
+pub mod TableOrderLaws
+pub mod UsedStatementLaws
 pub mod Values

@@ -1,9 +1,2 @@
-pub mod Fronts
 pub mod NamedSorts
-pub mod NamedStatements
-pub mod Nodes
-pub mod OneNode
-pub mod OneStatement
-pub mod OwnNodes
 pub mod PlanSteps
-pub mod SortedScripts

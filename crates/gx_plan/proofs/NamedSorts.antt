@@ -8,7 +8,7 @@ use Rattle.gx_rows.specs.declared.cut.Cut.TheVariants.{Rows}
 use Rattle.gx_types.specs.Built.{is_run}
 use Rattle.gx_types.specs.SoundStmts.{AreRun, HasWrittenCut, HaveWrittenCuts}
 use Rattle.gx_types.specs.StmtSorts.{HasNamedSorts, IsMadeWithin, named_sorts, sort_made, sort_of_number}
-use Rattle.gx_types.proofs.CutWords.{each-cut_word}
+use Rattle.gx_types.specs.CutWordLaws.{each-cut_word}
 use Rattle.gx_types_stmts.specs.StmtWords.{cut_of_written}
 use Rattle.gx_types_stmts.specs.declared.checked_stmt.CheckedStmt.{CheckedStmt}
 use Rattle.gx_types_stmts.specs.declared.sort.Sort.{Sort}

@@ -10,8 +10,8 @@ use Rattle.gx_plan.specs.Plans.{IsAdded, Planned, PlannedScript, first_planned, 
 use Rattle.gx_plan.specs.StmtNodes.{ScriptWithCut, feeds, statement_of}
 use Rattle.gx_plan.specs.declared.recipe.Recipe.{Recipe}
 use Rattle.gx_plan.specs.declared.result_nodes.ResultNodes.{ResultNodes}
-use Rattle.gx_plan.proofs.OneNode.{pushed}
-use Rattle.gx_plan.proofs.OneStatement.{added-front, added-plan, own-may}
+use Rattle.gx_plan.specs.OneNodeLaws.{pushed}
+use Rattle.gx_plan.specs.OneStatementLaws.{added-front, added-plan, own-may}
 
 pub pushed-as : (source other : ScriptWithCut) (p q : Planned) (r : Recipe) → MayPush source p r → other ≡ source → q ≡ with_recipe source p r → IsPlan other q
 pushed-as source other p q r may same is =

@@ -4,7 +4,7 @@
 --     mapvertices h = g (); filter f = t where true; innerjoin j = t, f ();
 --     mask m = h by g; print edges m;
 use Rattle.std.specs.Prelude.{◌≡◌, ℕ, true, List, [], ◌∷◌, None, Some, map, refl}
-use Rattle.gx_cuts.specs.declared.cut.Cut.TheVariants.{OneD}
+use Rattle.gx_rows.specs.declared.cut.Cut.TheVariants.{OneD}
 use Rattle.gx_expr.specs.declared.expr.Expr.{roll-Expr}
 use Rattle.gx_expr.specs.declared.expr.Expr.TheOpen as layer
 use Rattle.gx_rows.specs.declared.value.Value.TheVariants.{Bool as Truth}

@@ -1,6 +1,13 @@
 pub mod Examples
+pub mod FrontLaws
+pub mod NamedStatementLaws
+pub mod NodeLaws
+pub mod OneNodeLaws
+pub mod OneStatementLaws
+pub mod OwnNodeLaws
 pub mod PlanInvariant
 pub mod PlanLaws
 pub mod Plans
 pub mod Recipes
+pub mod SortedScriptLaws
 pub mod StmtNodes

@@ -3,7 +3,7 @@
 -- To plan a statement, add its lines here. A statement without lines adds no node and takes over
 -- none: those that need a view, a route or rounds, and `groupedges`.
 use Rattle.std.specs.Prelude.{◌≡◌, ℕ, ◌-◌, Option, None, Some, List, [], ◌∷◌, slice_get, unwrap_or, option_map, refl}
-use Rattle.gx_cuts.specs.declared.cut.Cut.{Cut}
+use Rattle.gx_rows.specs.declared.cut.Cut.{Cut}
 use Rattle.gx_types_stmts.specs.declared.checked_stmt.CheckedStmt.{CheckedStmt}
 use Rattle.gx_types_stmts.specs.declared.typed_stmt.TypedStmt.{TypedStmt}
 use Rattle.gx_types_stmts.specs.declared.typed_stmt.TypedStmt.TheVariants as stmts

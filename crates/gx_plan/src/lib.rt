@@ -7,7 +7,7 @@
 //! it demands blocks. It never sees a row, a file or a cluster.
 //!
 //! To plan one more statement, add its lines in specs/StmtNodes.antt, its arms in `stmt_nodes.rt`,
-//! and its lines in proofs/NamedStatements.antt, if it needs some.
+//! and its lines in specs/NamedStatementLaws.antt, if it needs some.
 #![tactic(auto)]
 
 mod feed;

@@ -5,8 +5,8 @@ use Rattle.std.specs.List.{AllByRecursion, list_any}
 use Rattle.gx_cluster_state.specs.Nets.{Net}
 use Rattle.gx_cluster_state.specs.Runs.{Command, Passes, Point, Run}
 use Rattle.gx_exec.specs.Courses.{Course, and_then, answered, answered_all, forced, forced_all, joined}
-use Rattle.gx_exec.proofs.CourseFaults.{front-forced, front-forced_all}
-use Rattle.gx_exec.proofs.CourseRuns.{front-same, joined-front}
+use Rattle.gx_exec.specs.CourseFaultLaws.{front-forced, front-forced_all}
+use Rattle.gx_exec.specs.CourseRunLaws.{front-same, joined-front}
 use Rattle.gx_exec_contents.specs.Worlds.{World}
 use Rattle.gx_model.specs.NamesUsed.{stmts_used, stmts_wanted}
 use Rattle.gx_plan.specs.PlanInvariant.{IsFrontOf}

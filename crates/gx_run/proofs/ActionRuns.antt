@@ -6,7 +6,7 @@ use Rattle.std.specs.List.{concat, range_with_len}
 use Rattle.std.proofs.Math.Seq.{take-append-add}
 use Rattle.std.proofs.lemmas.List.{take-append-le}
 use Rattle.std.proofs.lemmas.List.Folds.{concat-append}
-use Rattle.gx_cluster_state.proofs.Positions.{slice_get-below}
+use Rattle.gx_cluster_state.specs.PositionLaws.{slice_get-below}
 use Rattle.gx_cluster_state.specs.Runs.{Command, Point}
 use Rattle.gx_exec.specs.Courses.{Course, EndsAs, PassesAs, and_then, answered, answered_all, joined, still}
 use Rattle.gx_exec.specs.Engines.{action_answer}
@@ -17,8 +17,8 @@ use Rattle.gx_model.specs.ScriptMeaning.{Loaded, fault_of_action}
 use Rattle.gx_outside.specs.Prefixes.{AppendsProperPrefix}
 use Rattle.gx_plan.specs.PlanInvariant.{IsFrontOf}
 use Rattle.gx_plan.specs.Plans.{Planned}
-use Rattle.gx_plan.proofs.Fronts.{fronts-joined}
-use Rattle.gx_plan.proofs.Nodes.{slice_get-front}
+use Rattle.gx_plan.specs.FrontLaws.{fronts-joined}
+use Rattle.gx_plan.specs.NodeLaws.{slice_get-front}
 use Rattle.gx_print.specs.RowTexts.{text_of_rows}
 use Rattle.gx_print.specs.declared.status.Status.{Status}
 use Rattle.gx_print.specs.declared.status.Status.TheVariants as status
@@ -26,7 +26,7 @@ use Rattle.gx_rows.specs.declared.fault.Fault.{Fault}
 use Rattle.gx_run.specs.ActionLogs.{LogsAs, Moment, StopsInAction, StopsInText, actions_among, actions_of, texts_of}
 use Rattle.gx_run.specs.ActionTexts.{HasPrinted, meaning_of_number}
 use Rattle.gx_run.proofs.ActionsAmong.{actions_after, actions_more, actions_parted, after_from_one, single_from_one}
-use Rattle.gx_exec.proofs.CourseRuns.{passes-all, passes-front, passes-then, run-then}
+use Rattle.gx_exec.specs.CourseRunLaws.{passes-all, passes-front, passes-then, run-then}
 use Rattle.gx_run.proofs.ActionCourses.{AllFromOne, answered_all_front, answered_both}
 use Rattle.gx_run.proofs.PrintedTexts.{appends_both, appends_nothing, number_begins, texts_of_all}
 

@@ -3,6 +3,7 @@ use Rattle.std.proofs.Common.{◌≡◌, ◌≢◌, ◌⊎◌, inl, inr, ℕ, ze
 use Rattle.std.specs.Prelude.{IsSomeAnd, is_some, slice_get}
 use Rattle.gx_cluster.specs.States.{State, shape}
 use Rattle.gx_cluster_state.specs.Runs.{Point}
+use Rattle.gx_cluster_state.specs.declared.event.Event.{Event}
 use Rattle.gx_cluster_state.specs.Tasks.{task_block}
 use Rattle.gx_exec.specs.Courses.{Course, EndsAs, PassesAs, answered_all, was_added}
 use Rattle.gx_exec.specs.Engines.{HoldsWorkOf, point_of}
@@ -21,7 +22,7 @@ use Rattle.gx_run.specs.ActionLogs.{LogsAs, MayAnswerFrom, actions_of, moment_of
 use Rattle.gx_run.specs.Meaning.{loaded_under}
 use Rattle.gx_run.specs.RunLogs.{CarriesOut, CarriesOutPart, IsStart, LoadsAs, LogEnds, LogsAll, LogsPart, RunLogs, course_by, start_of, world_of}
 use Rattle.gx_run.specs.Steps.{Reads, Refuses, RefusesUnknown}
-use Rattle.gx_exec.proofs.CourseRuns.{front-same, passes-all}
+use Rattle.gx_exec.specs.CourseRunLaws.{front-same, passes-all}
 use Rattle.gx_run_args.specs.RunCommands.{RunCommand}
 
 -- ---- before the first action
@@ -57,15 +58,17 @@ start_may_answer c e cluster h = record {
   fresh = λ n from. subst (λ (p : Planned). was_added p n ≡ false) (sym h.engine.planned) (ap is_some (none_in (length e.world.script) (n - 1)));
 }
 
-start_point : (c : RunCommand) → point_of (idle_state c.workers) ≡ start_of c
+start_point : (c : RunCommand) → point_of (idle_state c.workers) [] ≡ start_of c
 unfolding shape
 start_point c = ap (λ running. record { shape = record { held = []; running = running; log = [] }; events = [] }) (idle_tasks c.workers)
 
 -- ---- what the cluster did
 
 carried_out : (w : World) (c : Course) (stop : Option Fault) (left : PlannedWorld) (start : Point) (cluster : State Block)
-    → left.world ≡ w → HoldsWorkOf left cluster → EndsAs w c stop left.planned start (point_of cluster) → CarriesOut w c start cluster
-carried_out w c stop left start cluster same holds h = record {
+    (events : List Event) → left.world ≡ w → HoldsWorkOf left cluster → EndsAs w c stop left.planned start (point_of cluster events) → CarriesOut w c stop start cluster
+carried_out w c stop left start cluster events same holds h = record {
+  fault = h.fault;
+  left = events;
   run = h.run c.planned (front-same c.planned);
   contents =
       subst (λ (p : Planned). HoldsWorkOf (record { world = w; planned = p }) cluster) h.planned
@@ -73,78 +76,90 @@ carried_out w c stop left start cluster same holds h = record {
 }
 
 carried_out_part : (w : World) (c : Course) (left : PlannedWorld) (start : Point) (cluster : State Block)
-    → left.world ≡ w → HoldsWorkOf left cluster → PassesAs w c start (point_of cluster) → CarriesOutPart w c start cluster
-carried_out_part w c left start cluster same holds h = record {
+    (events : List Event) → left.world ≡ w → HoldsWorkOf left cluster → PassesAs w c start (point_of cluster events) → CarriesOutPart w c start cluster
+carried_out_part w c left start cluster events same holds h = record {
+  left = events;
   run = h c.planned (front-same c.planned);
   planned = left.planned;
   contents = subst (λ (v : World). HoldsWorkOf (record { world = v; planned = left.planned }) cluster) same holds;
 }
 
-part_of_all : (w : World) (c : Course) (start : Point) (cluster : State Block) → CarriesOut w c start cluster → CarriesOutPart w c start cluster
-part_of_all w c start cluster h = record {
-  run = passes-all (net_in w c.planned) c.commands start (point_of cluster) h.run;
+part_of_all : (w : World) (c : Course) (end : Option Fault) (start : Point) (cluster : State Block) → CarriesOut w c end start cluster → CarriesOutPart w c start cluster
+part_of_all w c end start cluster h = record {
+  left = h.left;
+  run = passes-all (net_in w c.planned) c.commands start (point_of cluster h.left) h.run;
   planned = c.planned;
   contents = h.contents;
 }
 
 -- from the start of this command
 from_start : (P : World → Course → Point → Type 0) (c : RunCommand) (e : PlannedWorld) (cluster : State Block) (actions : List ℕ)
-    → IsStart c e cluster → P e.world (answered_all e.world e.planned actions) (point_of cluster)
+    → IsStart c e cluster → P e.world (answered_all e.world e.planned actions) (point_of cluster [])
     → P (world_of c (loaded_in e.world)) (course_by c (loaded_in e.world) actions) (start_of c)
 from_start P c e cluster actions h k =
     let l = loaded_in e.world in
     let at : P e.world (answered_all e.world e.planned actions) (start_of c) =
-    subst (P e.world (answered_all e.world e.planned actions)) (ap point_of h.idle ∙ start_point c) k in
+    subst (P e.world (answered_all e.world e.planned actions)) (ap (λ s. point_of s []) h.idle ∙ start_point c) k in
     let planned : P e.world (answered_all e.world (empty_plan c.parts (length l.checked)) actions) (start_of c) =
     subst (λ (p : Planned). P e.world (answered_all e.world p actions) (start_of c)) h.engine.planned at in
     subst (λ (w : World). P w (answered_all w (empty_plan c.parts (length l.checked)) actions) (start_of c)) h.engine.world planned
 
-loads_as : (contents : Option Contents) (name : List ℕ) (a b : ℕ) (e : PlannedWorld)
-    → Reads contents a b (λ (x : PlannedWorld). loaded_in x.world) (Ok e) (loaded_under name) → LoadsAs contents name (loaded_in e.world)
-loads_as None name a b e h = tt
-loads_as (Some held) name a b e h = h
+loads_as : (contents : Option Contents) (c : RunCommand) (a b : ℕ) (e : PlannedWorld)
+    → Reads contents a b (λ (x : PlannedWorld). loaded_in x.world) (Ok e) (loaded_under c) → LoadsAs contents c (loaded_in e.world)
+loads_as None c a b e h = tt
+loads_as (Some held) c a b e h = h
 
 -- ---- the end of a run
 
-pub logged_ends : (contents : Option Contents) (c : RunCommand) (a b : ℕ) (e left : PlannedWorld) (start cluster old : State Block) (end : Status) (before after : Option (List ℕ))
-    → Reads contents a b (λ (x : PlannedWorld). loaded_in x.world) (Ok e) (loaded_under c.script) → IsStart c e start
+logged_ends : (contents : Option Contents) (c : RunCommand) (a b : ℕ) (e left : PlannedWorld) (start cluster old : State Block) (events : List Event) (end : Status) (before after : Option (List ℕ))
+    → Reads contents a b (λ (x : PlannedWorld). loaded_in x.world) (Ok e) (loaded_under c) → IsStart c e start
     → left.world ≡ e.world → HoldsWorkOf left cluster
-    → LogsAs e.world (actions_of (loaded_in e.world)) (texts_of (loaded_in e.world)) end (moment_of e start before) (moment_of left cluster after)
+    → LogsAs e.world (actions_of (loaded_in e.world)) (texts_of (loaded_in e.world)) end (moment_of e start [] before) (moment_of left cluster events after)
     → LogEnds c contents end before after old cluster
-logged_ends contents c a b e left start cluster old status.Done before after r s same holds h = (
+logged_ends contents c a b e left start cluster old events status.Done before after r s same holds h = (
   loaded_in e.world,
-  loads_as contents c.script a b e r,
-  from_start (λ w d p. CarriesOut w d p cluster) c e start (actions_of (loaded_in e.world)) s
-      (carried_out e.world (answered_all e.world e.planned (actions_of (loaded_in e.world))) None left (point_of start) cluster same holds h),
+  loads_as contents c a b e r,
+  from_start (λ w d p. CarriesOut w d None p cluster) c e start (actions_of (loaded_in e.world)) s
+      (carried_out e.world (answered_all e.world e.planned (actions_of (loaded_in e.world))) None left (point_of start []) cluster events same holds h),
 )
-logged_ends contents c a b e left start cluster old status.Usage before after r s same holds h = h
-logged_ends contents c a b e left start cluster old (status.Script stop) before after r s same holds h = absurd h
-logged_ends contents c a b e left start cluster old (status.Schedule line) before after r s same holds h = h
-logged_ends contents c a b e left start cluster old (status.Data stop) before after r s same holds h = absurd h
-logged_ends contents c a b e left start cluster old (status.Fault fault) before after r s same holds h = (
+logged_ends contents c a b e left start cluster old events status.Usage before after r s same holds h = h
+logged_ends contents c a b e left start cluster old events (status.Script stop) before after r s same holds h = absurd h
+logged_ends contents c a b e left start cluster old events (status.Schedule line) before after r s same holds h = h
+logged_ends contents c a b e left start cluster old events (status.Data stop) before after r s same holds h = absurd h
+logged_ends contents c a b e left start cluster old events (status.Fault fault) before after r s same holds h = (
   loaded_in e.world,
-  loads_as contents c.script a b e r,
-  from_start (λ w d p. CarriesOut w d p cluster) c e start (actions_of (loaded_in e.world)) s
-      (carried_out e.world (answered_all e.world e.planned (actions_of (loaded_in e.world))) (Some fault) left (point_of start) cluster same holds h),
+  loads_as contents c a b e r,
+  from_start (λ w d p. CarriesOut w d (Some fault) p cluster) c e start (actions_of (loaded_in e.world)) s
+      (carried_out e.world (answered_all e.world e.planned (actions_of (loaded_in e.world))) (Some fault) left (point_of start []) cluster events same holds h),
 )
-logged_ends contents c a b e left start cluster old (status.Limit kind) before after r s same holds h = absurd h
-logged_ends contents c a b e left start cluster old (status.Source name) before after r s same holds h = absurd h
-logged_ends contents c a b e left start cluster old status.Sink before after r s same holds h = (
+logged_ends contents c a b e left start cluster old events (status.Limit kind) before after r s same holds h = absurd h
+logged_ends contents c a b e left start cluster old events (status.Source name) before after r s same holds h = absurd h
+logged_ends contents c a b e left start cluster old events status.Sink before after r s same holds h = (
   loaded_in e.world,
   h.whole,
-  loads_as contents c.script a b e r,
+  loads_as contents c a b e r,
   h.within,
-  from_start (λ w d p. CarriesOut w d p cluster) c e start (take (h.whole + 1) (actions_of (loaded_in e.world))) s
-      (carried_out e.world (answered_all e.world e.planned (take (h.whole + 1) (actions_of (loaded_in e.world)))) None left (point_of start) cluster same holds h.course),
+  from_start (λ w d p. CarriesOut w d None p cluster) c e start (take (h.whole + 1) (actions_of (loaded_in e.world))) s
+      (carried_out e.world (answered_all e.world e.planned (take (h.whole + 1) (actions_of (loaded_in e.world)))) None left (point_of start []) cluster events same holds h.course),
   h.text,
 )
-logged_ends contents c a b e left start cluster old status.NoMemory before after r s same holds h =
+logged_ends contents c a b e left start cluster old events status.NoMemory before after r s same holds h =
     inr (
       loaded_in e.world,
-      loads_as contents c.script a b e r,
+      loads_as contents c a b e r,
       from_start (λ w d p. CarriesOutPart w d p cluster) c e start (actions_of (loaded_in e.world)) s
-          (carried_out_part e.world (answered_all e.world e.planned (actions_of (loaded_in e.world))) left (point_of start) cluster same holds h),
+          (carried_out_part e.world (answered_all e.world e.planned (actions_of (loaded_in e.world))) left (point_of start []) cluster events same holds h),
     )
+
+-- the same, from a schedule in which no event is left
+pub logged_from : (contents : Option Contents) (c : RunCommand) (a b : ℕ) (e left : PlannedWorld) (start cluster old : State Block) (first events : List Event) (end : Status) (before after : Option (List ℕ))
+    → first ≡ [] → Reads contents a b (λ (x : PlannedWorld). loaded_in x.world) (Ok e) (loaded_under c) → IsStart c e start
+    → left.world ≡ e.world → HoldsWorkOf left cluster
+    → LogsAs e.world (actions_of (loaded_in e.world)) (texts_of (loaded_in e.world)) end (moment_of e start first before) (moment_of left cluster events after)
+    → LogEnds c contents end before after old cluster
+logged_from contents c a b e left start cluster old first events end before after none r s same holds h =
+    logged_ends contents c a b e left start cluster old events end before after r s same holds
+    (subst (λ es. LogsAs e.world (actions_of (loaded_in e.world)) (texts_of (loaded_in e.world)) end (moment_of e start es before) (moment_of left cluster events after)) none h)
 
 -- ---- refusals
 
@@ -175,16 +190,16 @@ refused_known_logs c held counted d status.Sink before after old new h same = ab
 refused_known_logs c held counted d status.NoMemory before after old new h same = inl same
 
 pub refused_logs : (contents : Option Contents) (c : RunCommand) (a b : ℕ) (s : Status) (before after : Option (List ℕ)) (old new : State Block)
-    → Reads contents a b (λ (x : PlannedWorld). loaded_in x.world) (Err s) (loaded_under c.script) → new ≡ old
+    → Reads contents a b (λ (x : PlannedWorld). loaded_in x.world) (Err s) (loaded_under c) → new ≡ old
     → LogEnds c contents s before after old new
 refused_logs None c a b s before after old new r same = refused_unknown_logs c _ s before after old new r same
 refused_logs (Some held) c a b s before after old new r same = refused_known_logs c held _ _ s before after old new r same
 
 -- ---- memory for the text of the end ran out
 
-all_is_part : (c : RunCommand) (contents : Option Contents) (cluster : State Block) → LogsAll c contents cluster → LogsPart c contents cluster
-all_is_part c contents cluster h =
-    (h.0, h.1, part_of_all (world_of c h.0) (course_by c h.0 (actions_of h.0)) (start_of c) cluster h.2)
+all_is_part : (c : RunCommand) (contents : Option Contents) (end : Option Fault) (cluster : State Block) → LogsAll c contents end cluster → LogsPart c contents cluster
+all_is_part c contents end cluster h =
+    (h.0, h.1, part_of_all (world_of c h.0) (course_by c h.0 (actions_of h.0)) end (start_of c) cluster h.2)
 
 no_memory_instead : (c : RunCommand) (contents : Option Contents) (end : Status) (before after : Option (List ℕ)) (old new : State Block)
     → has_fixed_text end ≡ false → LogEnds c contents end before after old new → LogEnds c contents status.NoMemory before after old new
@@ -193,7 +208,7 @@ no_memory_instead c contents status.Usage before after old new f h = absurd (cc 
 no_memory_instead c contents (status.Script stop) before after old new f h = inl h
 no_memory_instead c contents (status.Schedule line) before after old new f h = absurd h
 no_memory_instead c contents (status.Data stop) before after old new f h = inl h
-no_memory_instead c contents (status.Fault fault) before after old new f h = inr (all_is_part c contents new h)
+no_memory_instead c contents (status.Fault fault) before after old new f h = inr (all_is_part c contents (Some fault) new h)
 no_memory_instead c contents (status.Limit kind) before after old new f h = inl h
 no_memory_instead c contents (status.Source name) before after old new f h = inl h
 no_memory_instead c contents status.Sink before after old new f h = absurd (cc f)

@@ -4,6 +4,7 @@ use Rattle.std.specs.Io.KnownBytes.{Appends}
 use Rattle.std.specs.List.{concat, range_with_len}
 use Rattle.gx_cluster.specs.States.{State}
 use Rattle.gx_cluster_state.specs.Runs.{Point}
+use Rattle.gx_cluster_state.specs.declared.event.Event.{Event}
 use Rattle.gx_exec.specs.Courses.{EndsAs, PassesAs, answered_all, was_added}
 use Rattle.gx_exec.specs.Engines.{HoldsWorkOf, IsSteady, action_answer, point_of}
 use Rattle.gx_exec_contents.specs.Worlds.{World}
@@ -51,8 +52,9 @@ pub record Moment : Type 0 where
   pub point : Point
   pub written : Option (List ℕ)
 
-abbrev pub moment_of : PlannedWorld → State Block → Option (List ℕ) → Moment
-moment_of e cluster written = record { planned = e.planned; point = point_of cluster; written = written }
+abbrev pub moment_of : PlannedWorld → State Block → List Event → Option (List ℕ) → Moment
+moment_of e cluster events written =
+    record { planned = e.planned; point = point_of cluster events; written = written }
 
 -- the actions up to one were answered, and a proper prefix of its text was written after the texts before it
 pub record StopsInAction (w : World) (actions : List ℕ) (texts : List (List ℕ)) (before after : Moment) : Type 0 where

@@ -1,6 +1,5 @@
 pub mod ActionLogs
 pub mod ActionTexts
-pub mod Args
 pub mod LoadedFiles
 pub mod Meaning
 pub mod RunLogs

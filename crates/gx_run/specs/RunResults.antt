@@ -9,10 +9,10 @@ use Rattle.gx_print.specs.declared.status.Status.{Status}
 use Rattle.gx_print.specs.declared.status.Status.TheVariants as status
 use Rattle.gx_types_stmts.specs.declared.checked_stmt.CheckedStmt.{CheckedStmt}
 use Rattle.gx_model.specs.ScriptMeaning.{RunMeaning, refused_with}
-use Rattle.gx_run.specs.Args.{script_arg}
 use Rattle.gx_run.specs.LoadedFiles.{IsLoaded}
 use Rattle.gx_run.specs.Meaning.{meaning_under}
 use Rattle.gx_run.specs.ScriptFile.{script_under}
+use Rattle.gx_run_args.specs.RunCommands.{RunCommand, run_command}
 
 -- if the contents of the files are known, this is what the run means
 abbrev pub RunMeans : Option Contents → (Contents → RunMeaning) → RunMeaning → Type 0
@@ -66,12 +66,12 @@ Ends contents meaning read_fault write_fault status.Sink before after =
     write_fault × WritesProperPrefix contents meaning before after
 Ends contents meaning read_fault write_fault status.NoMemory before after = WritesFirst contents meaning before after
 
--- how a run ended with a script of this name or, if there is none, with other arguments; the clauses
--- of the top call take this apart
-abbrev pub RunEnds : Option (List ℕ) → Option Contents → Type 0 → Type 0 → Status → Option (List ℕ) → Option (List ℕ) → Type 0
+-- how a run ended with this command or, if there is none, with other arguments; the clauses of the top
+-- call take this apart
+abbrev pub RunEnds : Option RunCommand → Option Contents → Type 0 → Type 0 → Status → Option (List ℕ) → Option (List ℕ) → Type 0
 RunEnds None contents read_fault write_fault end before after = (end ≡ status.Usage) × (after ≡ before)
-RunEnds (Some name) contents read_fault write_fault end before after =
-    Ends contents (meaning_under name) read_fault write_fault end before after
+RunEnds (Some c) contents read_fault write_fault end before after =
+    Ends contents (meaning_under c) read_fault write_fault end before after
 
 -- ---- what was written to err
 
@@ -87,12 +87,13 @@ Tells counted end before after = WritesOrFails counted (text_of_status end) befo
 -- ---- names of files
 
 -- the name is the script's or, if the contents are known, that of a file which the script loads
-abbrev pub IsScriptOrLoaded : List ℕ → Option Contents → List ℕ → Type 0
-IsScriptOrLoaded script None name = ⊤
-IsScriptOrLoaded script (Some contents) name =
-    (name ≡ script)
-    ⊎ ((checked : List CheckedStmt) × (script_under script contents ≡ Ok checked) × IsLoaded checked name)
+abbrev pub IsScriptOrLoaded : RunCommand → Option Contents → List ℕ → Type 0
+IsScriptOrLoaded c None name = ⊤
+IsScriptOrLoaded c (Some contents) name =
+    (name ≡ c.script)
+    ⊎ ((checked : List CheckedStmt) × (script_under c.script contents ≡ Ok checked)
+    × IsLoaded checked name)
 
 -- a run with these arguments requests the file of this name
 abbrev pub IsRequested : List (List ℕ) → Option Contents → List ℕ → Type 0
-IsRequested args contents name = IfSome (script_arg args) (λ script. IsScriptOrLoaded script contents name)
+IsRequested args contents name = IfSome (run_command args) (λ c. IsScriptOrLoaded c contents name)

@@ -54,24 +54,25 @@ pub(crate) fn print_actions<O: Sink>(
     alloc: Global,
     engine: &mut Engine,
     cluster: &mut Cluster<Block>,
+    events: &mut Events,
     out: &mut O,
 ) -> Result<(), Status>
-    requires { MayAnswerFrom 1 engine.old cluster.old }
+    requires may { MayAnswerFrom 1 engine.old cluster.old }
+    requires no_events { events.old ≡ [] }
     ensures printed { Prints (meaning_of_answers (answers_of_script (loaded_in engine.old.world)))
         (FaultCounted (O.faults out.old) (O.faults out.new)) (end_of result)
         (O.written out.old) (O.written out.new) }
     ensures logged { LogsAs engine.old.world (actions_of (loaded_in engine.old.world))
         (texts_of (loaded_in engine.old.world)) (end_of result)
-        (moment_of engine.old cluster.old (O.written out.old))
-        (moment_of engine.new cluster.new (O.written out.new)) }
+        (moment_of engine.old cluster.old events.old (O.written out.old))
+        (moment_of engine.new cluster.new events.new (O.written out.new)) }
     ensures world_kept { engine.new.world ≡ engine.old.world }
     ensures contents_kept { HoldsWorkOf engine.new cluster.new }
     ensures stays_known { IsSome (O.written out.new) ↔ IsSome (O.written out.old) }
     ensures faults_only_rise { O.faults out.old ≤ O.faults out.new }
 {
-    let mut events = Events::none(alloc);
     for before in 0..engine.len() {
-        print_if_action(alloc, engine, cluster, &mut events, before + 1, out)?;
+        print_if_action(alloc, engine, cluster, events, before + 1, out)?;
     }
     Ok(())
 }
@@ -94,8 +95,8 @@ fn print_if_action<O: Sink>(
         (O.written out.old) (O.written out.new) }
     ensures logged { LogsAs engine.old.world (actions_among (loaded_in engine.old.world) (s ∷ []))
         (meaning_of_number (loaded_in engine.old.world) s).texts (end_of result)
-        (moment_of engine.old cluster.old (O.written out.old))
-        (moment_of engine.new cluster.new (O.written out.new)) }
+        (moment_of engine.old cluster.old events.old (O.written out.old))
+        (moment_of engine.new cluster.new events.new (O.written out.new)) }
     ensures never_done { IfErr result (λ end. end ≢ Status.Done) }
     ensures may_go_on { OnOk result (MayAnswerFrom (s + 1) engine.new cluster.new) }
     ensures world_kept { engine.new.world ≡ engine.old.world }
@@ -130,8 +131,8 @@ fn print_action<O: Sink>(
         (O.written out.old) (O.written out.new) }
     ensures logged { LogsAs engine.old.world (s ∷ [])
         (meaning_of_number (loaded_in engine.old.world) s).texts (end_of result)
-        (moment_of engine.old cluster.old (O.written out.old))
-        (moment_of engine.new cluster.new (O.written out.new)) }
+        (moment_of engine.old cluster.old events.old (O.written out.old))
+        (moment_of engine.new cluster.new events.new (O.written out.new)) }
     ensures never_done { IfErr result (λ end. end ≢ Status.Done) }
     ensures may_go_on { OnOk result (MayAnswerFrom (s + 1) engine.new cluster.new) }
     ensures world_kept { engine.new.world ≡ engine.old.world }
@@ -169,10 +170,10 @@ fn answer_action(
     ensures exact { ForcesTo result (fault_of_action (loaded_in engine.old.world) s) }
     ensures ok { OnOk result (EndsAs engine.old.world
         (answered engine.old.world engine.old.planned s) None engine.new.planned
-        (point_of cluster.old) (point_of cluster.new)) }
+        (point_of cluster.old events.old) (point_of cluster.new events.new)) }
     ensures stop { IfErr result (λ stop. StopsAs stop engine.old.world
         (answered engine.old.world engine.old.planned s) engine.new.planned
-        (point_of cluster.old) (point_of cluster.new)) }
+        (point_of cluster.old events.old) (point_of cluster.new events.new)) }
     ensures may_go_on { OnOk result (MayAnswerFrom (s + 1) engine.new cluster.new) }
     ensures world_kept { engine.new.world ≡ engine.old.world }
     ensures contents_kept { HoldsWorkOf engine.new cluster.new }

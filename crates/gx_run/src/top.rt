@@ -24,7 +24,6 @@ ghost use Rattle.gx_outside.specs.Faults.{FaultCounted};
 ghost use Rattle.gx_print.specs.ExitCodes.{exit_code};
 ghost use Rattle.gx_model.specs.ScriptMeaning.{refused_with};
 ghost use Rattle.gx_exec_contents.specs.Worlds.{loaded_in};
-ghost use Rattle.gx_run.specs.Args.{script_arg};
 ghost use Rattle.gx_run.specs.Meaning.{loaded_under, meaning, meaning_under};
 ghost use Rattle.gx_run.specs.RunLogs.{
   IsFreshEngine,
@@ -58,7 +57,7 @@ use crate::actions::print_actions;
 use crate::loads::read_loads;
 use crate::script::read_script;
 use crate::telling::tell;
-use gx_cluster::Cluster;
+use gx_cluster::{Cluster, Events};
 use gx_exec::Engine;
 use gx_exec_work::Block;
 use gx_outside::{Files, Sink};
@@ -95,7 +94,7 @@ pub fn run<F: Files, O: Sink, E: Sink>(
         (O.written out.old) (O.written out.new) }
 
     // Each refusal has its cause, and the first one is returned.
-    ensures usage_exactly { (result ≡ Status.Usage) ↔ (script_arg (args_of args.now) ≡ None) }
+    ensures usage_exactly { (result ≡ Status.Usage) ↔ (run_command (args_of args.now) ≡ None) }
     ensures script_stop_has_cause { (stop : _) → result ≡ Status.Script stop →
         RunMeans (F.contents files.old) (meaning (args_of args.now))
         (refused_with (Status.Script stop)) }
@@ -127,10 +126,10 @@ pub fn run<F: Files, O: Sink, E: Sink>(
     // of the plan.
     ensures log_if_done { result ≡ Status.Done →
         IsSomeAnd (run_command (args_of args.now))
-        (λ c. LogsAll c (F.contents files.old) cluster.new) }
+        (λ c. LogsAll c (F.contents files.old) None cluster.new) }
     ensures log_if_fault { (fault : _) → result ≡ Status.Fault fault →
         IsSomeAnd (run_command (args_of args.now))
-        (λ c. LogsAll c (F.contents files.old) cluster.new) }
+        (λ c. LogsAll c (F.contents files.old) (Some fault) cluster.new) }
     ensures log_if_sink { result ≡ Status.Sink →
         IsSomeAnd (run_command (args_of args.now))
         (λ c. LogsFirst c (F.contents files.old) (O.written out.old) (O.written out.new)
@@ -175,7 +174,7 @@ fn end_of_run<F: Files, O: Sink>(
     cluster: &mut Cluster<Block>,
 ) -> Status
     requires empty { cluster.old ≡ record { held = []; running = None ∷ []; log = []; spare = 0 } }
-    ensures ends { RunEnds (script_arg (args_of args.now)) (F.contents files.old)
+    ensures ends { RunEnds (run_command (args_of args.now)) (F.contents files.old)
         (FaultCounted (F.faults files.old) (F.faults files.new))
         (FaultCounted (O.faults out.old) (O.faults out.new)) result
         (O.written out.old) (O.written out.new) }
@@ -207,24 +206,27 @@ fn run_script<F: Files, O: Sink>(
     requires workers_from_one { 1 ≤ command.now.workers }
     requires workers_to_64 { command.now.workers ≤ 64 }
     requires empty { cluster.old ≡ record { held = []; running = None ∷ []; log = []; spare = 0 } }
-    ensures ends { Ends (F.contents files.old) (meaning_under command.now.script.now)
+    ensures ends { Ends (F.contents files.old) (meaning_under (command_view command.now))
         (FaultCounted (F.faults files.old) (F.faults files.new))
         (FaultCounted (O.faults out.old) (O.faults out.new)) result
         (O.written out.old) (O.written out.new) }
     ensures logged { LogEnds (command_view command.now) (F.contents files.old) result
         (O.written out.old) (O.written out.new) cluster.old cluster.new }
     ensures source_is_requested { NamesOnly result
-        (IsScriptOrLoaded command.now.script.now (F.contents files.old)) }
+        (IsScriptOrLoaded (command_view command.now) (F.contents files.old)) }
     ensures contents_kept { F.contents files.new ≡ F.contents files.old }
     ensures out_stays_known { IsSome (O.written out.new) ↔ IsSome (O.written out.old) }
     ensures file_faults_only_rise { F.faults files.old ≤ F.faults files.new }
     ensures out_faults_only_rise { O.faults out.old ≤ O.faults out.new }
 {
     match start(alloc, files, cluster, command) {
-        Ok(mut engine) => match print_actions(alloc, &mut engine, cluster, out) {
-            Ok(()) => Status::Done,
-            Err(end) => end,
-        },
+        Ok(mut engine) => {
+            let mut events = Events::none(alloc);
+            match print_actions(alloc, &mut engine, cluster, &mut events, out) {
+                Ok(()) => Status::Done,
+                Err(end) => end,
+            }
+        }
         Err(refusal) => refusal,
     }
 }
@@ -244,12 +246,12 @@ fn start<F: Files>(
     ensures contents_kept { F.contents files.new ≡ F.contents files.old }
     ensures faults_only_rise { F.faults files.old ≤ F.faults files.new }
     ensures loaded { Reads (F.contents files.old) (F.faults files.old) (F.faults files.new)
-        (λ engine. loaded_in engine.world) result (loaded_under command.now.script.now) }
+        (λ engine. loaded_in engine.world) result (loaded_under (command_view command.now)) }
     ensures started { IfOk result
         (λ engine. IsStart (command_view command.now) engine cluster.new) }
     ensures cluster_kept { OnErr result (cluster.new ≡ cluster.old) }
     ensures source_is_requested { IfErr result (λ refusal. NamesOnly refusal
-        (IsScriptOrLoaded command.now.script.now (F.contents files.old))) }
+        (IsScriptOrLoaded (command_view command.now) (F.contents files.old))) }
 {
     let engine = load_script(alloc, files, command)?;
     cluster.configure(command.workers)?;
@@ -267,10 +269,10 @@ fn load_script<F: Files>(
     ensures contents_kept { F.contents files.new ≡ F.contents files.old }
     ensures faults_only_rise { F.faults files.old ≤ F.faults files.new }
     ensures loaded { Reads (F.contents files.old) (F.faults files.old) (F.faults files.new)
-        (λ engine. loaded_in engine.world) result (loaded_under command.now.script.now) }
+        (λ engine. loaded_in engine.world) result (loaded_under (command_view command.now)) }
     ensures engine { IfOk result (IsFreshEngine (command_view command.now)) }
     ensures source_is_requested { IfErr result (λ refusal. NamesOnly refusal
-        (IsScriptOrLoaded command.now.script.now (F.contents files.old))) }
+        (IsScriptOrLoaded (command_view command.now) (F.contents files.old))) }
 {
     let typed = read_script(alloc, files, command.script)?;
     let loads = read_loads(alloc, files, &typed)?;

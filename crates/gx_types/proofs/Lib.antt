@@ -1,5 +1,4 @@
 mod BuiltLemmas
-pub mod CutWords
 mod ScriptWalk
 mod SoundScripts
 mod TypedBodies

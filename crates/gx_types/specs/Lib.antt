@@ -1,4 +1,5 @@
 pub mod Built
+pub mod CutWordLaws
 pub mod Marks
 pub mod Needs
 pub mod ScriptTyping

@@ -3,6 +3,7 @@
 -- To add a statement, add its line in both tables.
 use Rattle.std.specs.Prelude.{◌≡◌, ℕ, ◌-◌, ◌≤◌, Option, None, Some, List, [], ◌∷◌, map, option_and_then, slice_get, refl}
 use Rattle.std.specs.List.{AllByRecursion}
+use Rattle.gx_rows.specs.Columns.{Column}
 use Rattle.gx_types_stmts.specs.StmtNumbers.{named_numbers}
 use Rattle.gx_types_stmts.specs.declared.checked_stmt.CheckedStmt.{CheckedStmt}
 use Rattle.gx_types_stmts.specs.declared.sort.Sort.{Sort}
@@ -42,6 +43,13 @@ sort_made (typed.PrintTable t) = None
 sort_made (typed.CountVertices g) = None
 sort_made (typed.CountEdges g) = None
 sort_made (typed.CountTable t) = None
+
+-- the sort of what has these columns, as its rows or vertices and as its edges
+abbrev pub sort_of_types : Option (List Column) → Option (List Column) → Option Sort
+sort_of_types (Some vs) None = Some Table
+sort_of_types None (Some es) = Some Edges
+sort_of_types (Some vs) (Some es) = Some Graph
+sort_of_types None None = None
 
 -- each statement that a statement names, with the sort that it has to make, in text order
 abbrev pub named_sorts : TypedStmt → List (Sort × ℕ)

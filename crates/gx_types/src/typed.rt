@@ -4,7 +4,13 @@ ghost use Rattle.std.specs.Prelude.{◌≡◌, ◌-◌, ◌<◌, ◌≤◌, ◌^
 ghost use Rattle.std.specs.Prelude.{vec_len};
 ghost use Rattle.std.specs.Option.{option_copied};
 ghost use Rattle.gx_types.specs.Needs.{NamesAreUsed, UseEarlier};
-ghost use Rattle.gx_types.specs.SoundStmts.{AreRun, HasSoundStmts, HaveWrittenCuts};
+ghost use Rattle.gx_types.specs.SoundStmts.{
+  AreRun,
+  HasSoundStmts,
+  HaveFewColumns,
+  HaveWrittenCuts,
+  MakeTheirSorts,
+};
 ghost use Rattle.gx_types.specs.StmtSorts.{HasNamedSorts};
 ghost use Rattle.gx_types_stmts.specs.StmtNumbers.{named_numbers};
 
@@ -12,17 +18,23 @@ use gx_rows::RowType;
 use gx_types_stmts::{CheckedStmt, SharedType, TypedStmt};
 use std::marker::Model;
 
-/// A script that is well typed. Contracts see it as the list of its statements, each of which is
-/// run, and uses those that it names: earlier ones that make things of the right sorts.
+/// A script that is well typed. Contracts see it as the list of its statements, at most 1,000, each
+/// of which is run, and uses those that it names: earlier ones that make things of the right sorts.
+/// What is made has at most 16 columns.
 #[derive(Drop)]
 pub struct Typed {
     pub(crate) statements: Vec<CheckedStmt>,
 }
 
 impl Model for Typed {
-    ghost use Rattle.std.specs.Prelude.{All, List, ◌<◌, ◌^◌, vec_len};
+    ghost use Rattle.std.specs.Prelude.{All, List, ◌≤◌, vec_len};
     ghost use Rattle.gx_types.specs.Needs.{NamesAreUsed, UseEarlier};
-    ghost use Rattle.gx_types.specs.SoundStmts.{AreRun, HaveWrittenCuts};
+    ghost use Rattle.gx_types.specs.SoundStmts.{
+      AreRun,
+      HaveFewColumns,
+      HaveWrittenCuts,
+      MakeTheirSorts,
+    };
     ghost use Rattle.gx_types.specs.StmtSorts.{HasNamedSorts};
     ghost use Rattle.gx_types_stmts.specs.declared.checked_stmt.CheckedStmt.{CheckedStmt as Statement};
     ghost use Rattle.gx_types_stmts.specs.contracts.checked_stmt.CheckedStmt as statement;
@@ -35,19 +47,21 @@ impl Model for Typed {
     ghost view = { λ t. t.statements.items };
 
     ghost invariant = { λ t. record {
-      few : vec_len t.statements < 2 ^ 32;
+      few : vec_len t.statements ≤ 1000;
       earlier : UseEarlier t.statements.items;
       named : All NamesAreUsed t.statements.items;
       sorts : HasNamedSorts t.statements.items;
       run : AreRun t.statements.items;
       cuts : HaveWrittenCuts t.statements.items;
+      makes : MakeTheirSorts t.statements.items;
+      columns : HaveFewColumns t.statements.items;
     } };
 }
 
 impl Typed {
     /// The script of these statements. It takes no memory.
     pub(crate) fn of(statements: Vec<CheckedStmt>) -> Typed
-        requires few { vec_len statements < 2 ^ 32 }
+        requires few { vec_len statements ≤ 1000 }
         requires sound { HasSoundStmts statements.items }
         ensures { result ≡ statements.items }
     {
@@ -58,19 +72,23 @@ impl Typed {
     pub fn len(&self) -> u32
         ensures count { result ≡ length self.now }
         ensures few { length self.now < 2 ^ 32 }
+        ensures within_limit { length self.now ≤ 1000 }
     {
         self.statements.len() as u32
     }
 
     /// Tells laws of each script that is well typed: its statements use exactly those that they name,
-    /// which are earlier ones of the right sorts; all are run; and the cut of `partition` is one that
-    /// a script can write. It does nothing.
+    /// which are earlier ones of the right sorts; all are run; the cut of `partition` is one that a
+    /// script can write; and what each makes is of its sort and has at most 16 columns. It does
+    /// nothing.
     pub fn statements_are_sound(&self)
         ensures earlier { UseEarlier self.now }
         ensures named { All NamesAreUsed self.now }
         ensures sorts { HasNamedSorts self.now }
         ensures run { AreRun self.now }
         ensures cuts { HaveWrittenCuts self.now }
+        ensures makes { MakeTheirSorts self.now }
+        ensures columns { HaveFewColumns self.now }
     {
         let _statements = &self.statements;
     }

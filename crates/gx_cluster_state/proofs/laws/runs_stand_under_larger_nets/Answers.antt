@@ -1,5 +1,5 @@
 use Rattle.gx_cluster_state.specs.Nets.{net_of}
-use Rattle.gx_cluster_state.proofs.LargerNets.{passes_up, run_up, turns_up}
+use Rattle.gx_cluster_state.specs.LargerNetLaws.{passes_up, run_up, turns_up}
 use Rattle.gx_cluster_state.proofs.laws.runs_stand_under_larger_nets.Goals as goal
 
 pub returns-clause-turns : goal.returns-clause-turns

@@ -1,4 +1,4 @@
-use Rattle.gx_epart.proofs.Unique.{IsEdgeOrderOf-unique}
+use Rattle.gx_epart.specs.UniqueLaws.{IsEdgeOrderOf-unique}
 use Rattle.gx_epart.proofs.laws.edge_order_is_unique.Goals as goal
 
 pub returns : goal.returns

@@ -1,6 +1,6 @@
 use Rattle.std.proofs.Common.{◌∙◌, ap}
 use Rattle.gx_epart.specs.Edges.{edge_order_of}
-use Rattle.gx_exec_answers.proofs.EdgeOrders.{IsEdgeOrderOf-seen}
+use Rattle.gx_exec_answers.specs.EdgeOrderLaws.{IsEdgeOrderOf-seen}
 use Rattle.gx_exec_answers.proofs.edges.in_edge_order.Goals as goal
 
 pub returns : goal.returns

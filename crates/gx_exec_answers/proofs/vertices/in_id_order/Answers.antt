@@ -1,7 +1,7 @@
 use Rattle.std.proofs.Common.{rules, ◌∙◌, ap}
 use Rattle.std.proofs.lemmas.List.Sorted.{answers_always}
 use Rattle.gx_exec_answers.specs.VertexOrder.{id_order_of}
-use Rattle.gx_exec_answers.proofs.VertexOrders.{id_order_of-stable}
+use Rattle.gx_exec_answers.specs.VertexOrderLaws.{id_order_of-stable}
 use Rattle.gx_exec_answers.proofs.vertices.in_id_order.Goals as goal
 
 pub returns : goal.returns

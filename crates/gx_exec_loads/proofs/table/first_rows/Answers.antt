@@ -2,8 +2,8 @@ use Rattle.std.proofs.Common.{rules, ◌∙◌, sym, subst}
 use Rattle.std.specs.Map.{keys_of}
 use Rattle.std.proofs.lemmas.Fn.{dedup_same}
 use Rattle.std.proofs.lemmas.List.Sorted.{answers_always}
-use Rattle.gx_exec_contents.proofs.TableParts.{table_of-is}
-use Rattle.gx_model.proofs.Tables.{has_same_id, table_is}
+use Rattle.gx_exec_contents.specs.TablePartLaws.{table_of-is}
+use Rattle.gx_model.specs.TableLaws.{has_same_id, table_is}
 use Rattle.gx_gops.specs.TableLaws.{IsTableOf-table_of}
 use Rattle.gx_index.specs.Ids.{IsAscending}
 use Rattle.gx_exec_loads.proofs.table.first_rows.Goals as goal

@@ -1,7 +1,7 @@
 use Rattle.std.proofs.Common.{subst}
 use Rattle.gx_exec_reads.specs.Actions.{IsAction}
 use Rattle.gx_exec_reads.specs.HeldAnswers.{answer_of_blocks}
-use Rattle.gx_exec_reads.proofs.NamesInScript.{action-at, names-in_script}
+use Rattle.gx_exec_reads.specs.ScriptNameLaws.{action-at, names-in_script}
 use Rattle.gx_exec_reads.proofs.reading.read_answer.Goals as goal
 
 pub answer_of-requires-clause-is_action : goal.answer_of-requires-clause-is_action

@@ -1,7 +1,7 @@
 use Rattle.std.proofs.Common.{◌≡◌, List, [], IsPermutation, subst}
 use Rattle.std.specs.List.{IsDistinct}
 use Rattle.std.proofs.lemmas.Result.{IfOk-weaker}
-use Rattle.gx_gops.proofs.Rows.{none_are_left}
+use Rattle.gx_gops.specs.RowLaws.{none_are_left}
 use Rattle.gx_vpart.specs.Operators.{VertexRow}
 use Rattle.gx_exec_work.proofs.inputs.no_vertices.Goals as goal
 

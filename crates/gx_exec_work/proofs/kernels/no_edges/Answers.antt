@@ -2,7 +2,7 @@ use Rattle.std.proofs.Common.{◌≡◌, List, [], IsPermutation, ap, ◌∙◌,
 use Rattle.std.proofs.lemmas.Result.{IfOk-weaker}
 use Rattle.gx_exec_contents.specs.PartContents.{Edges}
 use Rattle.gx_exec_work.specs.Works.{shown}
-use Rattle.gx_gops.proofs.Rows.{none_are_left}
+use Rattle.gx_gops.specs.RowLaws.{none_are_left}
 use Rattle.gx_rows.specs.Order.{Edge}
 use Rattle.gx_exec_work.proofs.kernels.no_edges.Goals as goal
 

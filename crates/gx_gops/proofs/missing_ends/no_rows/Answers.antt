@@ -1,7 +1,7 @@
 use Rattle.std.proofs.Common.{◌≡◌, List, [], IsPermutation, subst}
 use Rattle.std.specs.List.{IsDistinct}
 use Rattle.gx_vpart.specs.Operators.{VertexRow}
-use Rattle.gx_gops.proofs.Rows.{none_are_left}
+use Rattle.gx_gops.specs.RowLaws.{none_are_left}
 use Rattle.std.proofs.lemmas.Result.{IfOk-weaker}
 use Rattle.gx_gops.proofs.missing_ends.no_rows.Goals as goal
 

@@ -1,6 +1,6 @@
 use Rattle.std.proofs.Common.{◌≡◌, ◌∙◌}
 use Rattle.gx_vpart.specs.Operators.{minus}
-use Rattle.gx_gops.proofs.Rows.{minus-none}
+use Rattle.gx_gops.specs.RowLaws.{minus-none}
 use Rattle.std.proofs.lemmas.Result.{IfOk-weaker}
 use Rattle.gx_gops.proofs.missing_ends.shared.Goals as goal
 

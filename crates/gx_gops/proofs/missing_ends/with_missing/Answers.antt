@@ -4,7 +4,7 @@ use Rattle.std.proofs.lemmas.Result.{IfOk-weaker}
 use Rattle.gx_index.specs.Ids.{HasDistinctIds, IsAscending}
 use Rattle.gx_gops.specs.AllEdges.{edges_of_parts}
 use Rattle.gx_gops.specs.Tables.{default_rows, ends_in_part, table_of}
-use Rattle.gx_gops.proofs.Rows.{HasDistinctIds-with_missing, empty_from_length, if_ok_both, table_of-complete, table_of-with_missing}
+use Rattle.gx_gops.specs.RowLaws.{HasDistinctIds-with_missing, empty_from_length, if_ok_both, table_of-complete, table_of-with_missing}
 use Rattle.gx_gops.proofs.missing_ends.with_missing.Goals as goal
 
 pub returns-then-is_empty : goal.returns-then-is_empty

@@ -1,5 +1,5 @@
 use Rattle.std.proofs.Common.{append_assoc}
-use Rattle.gx_lineage.proofs.Blocks.{blocks_at_more}
+use Rattle.gx_lineage.specs.BlockLaws.{blocks_at_more}
 use Rattle.gx_lineage.proofs.dag.push_all_blocks.Goals as goal
 
 pub loop-part-preserved : goal.loop-part-preserved

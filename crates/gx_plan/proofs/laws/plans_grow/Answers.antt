@@ -1,5 +1,5 @@
-use Rattle.gx_plan.proofs.OneStatement.{added-front, added-plan}
-use Rattle.gx_plan.proofs.Fronts.{front-inputs, fronts-joined}
+use Rattle.gx_plan.specs.OneStatementLaws.{added-front, added-plan}
+use Rattle.gx_plan.specs.FrontLaws.{front-inputs, fronts-joined}
 use Rattle.gx_plan.proofs.laws.plans_grow.Goals as goal
 
 pub returns-clause-plan : goal.returns-clause-plan

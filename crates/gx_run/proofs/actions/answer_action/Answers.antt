@@ -8,5 +8,5 @@ use Rattle.gx_run.proofs.actions.answer_action.Goals as goal
 pub returns-clause-stop : goal.returns-clause-stop
 returns-clause-stop c =
     let e = c.args.engine.now in
-    ends_passes e.world (answered e.world e.planned c.args.s) None c.answer.new.self.planned (point_of c.args.cluster.now) (point_of c.answer.new.cluster)
+    ends_passes e.world (answered e.world e.planned c.args.s) None c.answer.new.self.planned (point_of c.args.cluster.now c.args.events.now) (point_of c.answer.new.cluster c.answer.new.events)
     c.in-Ok.ensures.ok

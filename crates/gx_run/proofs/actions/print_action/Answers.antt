@@ -14,15 +14,15 @@ use Rattle.gx_run.proofs.actions.print_action.Goals as goal
 pub returns-in-Err-NoMemory-clause-logged : goal.returns-in-Err-NoMemory-clause-logged
 returns-in-Err-NoMemory-clause-logged g c =
     let e = c.args.engine.now in
-    single_passes e.world e.planned c.args.s (point_of c.args.cluster.now) (point_of c.answer_action.new.cluster)
+    single_passes e.world e.planned c.args.s (point_of c.args.cluster.now c.args.events.now) (point_of c.answer_action.new.cluster c.answer_action.new.events)
     (rw c.in-Err-NoMemory.field-0-is at c.in-Err-NoMemory.ensures.stop)
 
 -- memory for the text ran out
 pub returns-in_err-text-clause-logged : goal.returns-in_err-text-clause-logged
 returns-in_err-text-clause-logged g c =
     let e = c.args.engine.now in
-    let before = point_of c.args.cluster.now in
-    let after = point_of c.answer_action.new.cluster in
+    let before = point_of c.args.cluster.now c.args.events.now in
+    let after = point_of c.answer_action.new.cluster c.answer_action.new.events in
     let same : c.from_residual.result ≡ Err status.NoMemory = search rules in
     rw same
     (single_passes e.world e.planned c.args.s before after
@@ -39,5 +39,5 @@ returns-clause-logged g c =
     let after = g.O.Sink.written c.write_all.new.sink in
     let part : AppendsProperPrefix before after text = search rules in
     single_stops e.world c.args.s (meaning_of_number l c.args.s).texts text
-    (moment_of e c.args.cluster.now before) (moment_of c.answer_action.new.engine c.answer_action.new.cluster after)
+    (moment_of e c.args.cluster.now c.args.events.now before) (moment_of c.answer_action.new.engine c.answer_action.new.cluster c.answer_action.new.events after)
     (text_of_action l c.args.s answer c.in-Ok.ensures.answer c.in-Ok.ensures.exact) part c.in-Ok.ensures.ok

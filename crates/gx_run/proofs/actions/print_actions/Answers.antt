@@ -24,9 +24,9 @@ loop-before-preserved g c =
           (rw c.len-before-end.ensures.count at c.loop-before-test.true) so_far.printed
           (rw so_far.world at step.printed);
       logged =
-          logged_more w (loaded_in w) n (moment_of c.args.engine.now c.args.cluster.now (written c.args.out.now))
-          (moment_of c.loop-before.engine c.loop-before.cluster (written c.loop-before.out))
-          (moment_of c.print_if_action.new.engine c.print_if_action.new.cluster (written c.print_if_action.new.out))
+          logged_more w (loaded_in w) n (moment_of c.args.engine.now c.args.cluster.now c.args.events.now (written c.args.out.now))
+          (moment_of c.loop-before.engine c.loop-before.cluster c.loop-before.events (written c.loop-before.out))
+          (moment_of c.print_if_action.new.engine c.print_if_action.new.cluster c.print_if_action.new.events (written c.print_if_action.new.out))
           so_far.logged (rw so_far.world at step.logged);
     }
 
@@ -52,8 +52,8 @@ returns-in_err-print_if_action-clause-logged g c =
     let end = (c.in_err-print_if_action.field-0).0 in
     let same : c.from_residual.result ≡ Err end = search rules in
     rw same
-    (logged_stop w (loaded_in w) c.loop-before.before end (moment_of c.args.engine.now c.args.cluster.now (written c.args.out.now))
-    (moment_of c.loop-before.engine c.loop-before.cluster (written c.loop-before.out))
-    (moment_of c.print_if_action.new.engine c.print_if_action.new.cluster (written c.print_if_action.new.out))
+    (logged_stop w (loaded_in w) c.loop-before.before end (moment_of c.args.engine.now c.args.cluster.now c.args.events.now (written c.args.out.now))
+    (moment_of c.loop-before.engine c.loop-before.cluster c.loop-before.events (written c.loop-before.out))
+    (moment_of c.print_if_action.new.engine c.print_if_action.new.cluster c.print_if_action.new.events (written c.print_if_action.new.out))
     (rw c.len-before-end.ensures.count at c.loop-before-test.true) so_far.printed step.never_done so_far.logged
     (rw so_far.world at step.logged))

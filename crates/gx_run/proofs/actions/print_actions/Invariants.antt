@@ -18,5 +18,5 @@ invariant-loop-before g l = record {
   printed : HasPrinted (loaded_in l.fn.engine.world) l.before (g.O.Sink.written l.fn.out) (g.O.Sink.written l.out);
   logged : EndsAs l.fn.engine.world
       (answered_all l.fn.engine.world l.fn.engine.planned (actions_among (loaded_in l.fn.engine.world) (range_with_len 1 l.before)))
-      None l.engine.planned (point_of l.fn.cluster) (point_of l.cluster);
+      None l.engine.planned (point_of l.fn.cluster l.fn.events) (point_of l.cluster l.events);
 }

@@ -1,16 +1,15 @@
 use Rattle.gx_print.specs.declared.status.Status.TheVariants as status
 use Rattle.gx_run.proofs.LogEnds.{kept_if_refused, log_at, told_logs}
 use Rattle.gx_run.proofs.RunEnds.{no_memory_ends, told_ends}
-use Rattle.gx_run.specs.Args.{script_arg}
 use Rattle.gx_run.proofs.top.run.Goals as goal
 use Rattle.gx_run_args.specs.RunCommands.{arg_bytes, run_command}
 
 pub returns-clause-output_if_no_memory : goal.returns-clause-output_if_no_memory
 returns-clause-output_if_no_memory g c e =
-    let script = script_arg (arg_bytes c.args.args.now) in
+    let command = run_command (arg_bytes c.args.args.now) in
     let contents = g.F.Files.contents c.args.files.now in
-    no_memory_ends script contents _ _ c.tell.result _ _
-    (told_ends script contents _ _ c.end_of_run-end.result c.tell.result _ _ c.tell.ensures.same c.end_of_run-end.ensures.ends) e
+    no_memory_ends command contents _ _ c.tell.result _ _
+    (told_ends command contents _ _ c.end_of_run-end.result c.tell.result _ _ c.tell.ensures.same c.end_of_run-end.ensures.ends) e
 
 pub returns-clause-log_if_done : goal.returns-clause-log_if_done
 returns-clause-log_if_done g c e =

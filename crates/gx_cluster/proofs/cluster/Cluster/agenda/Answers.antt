@@ -2,7 +2,7 @@ use Rattle.std.proofs.Common.{[], subst, sym}
 use Rattle.std.specs.Prelude.{All}
 use Rattle.gx_lineage.specs.Lineage.{IsBlock}
 use Rattle.gx_cluster_state.specs.Nets.{net_of}
-use Rattle.gx_cluster_state.proofs.WantedBlocks.{wanted_in}
+use Rattle.gx_cluster_state.specs.WantedBlockLaws.{wanted_in}
 use Rattle.gx_cluster.specs.Agendas.{IsAgenda}
 use Rattle.gx_cluster.specs.States.{shape}
 use Rattle.gx_cluster.proofs.AgendaTurns.{first_agenda}

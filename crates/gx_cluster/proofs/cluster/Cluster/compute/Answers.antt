@@ -1,9 +1,9 @@
 use Rattle.std.proofs.Common.{◌≡◌, ◌∙◌, ◌<◌, Some, None, ap, length, subst, sym}
 use Rattle.std.specs.Prelude.{slice_get}
 use Rattle.gx_lineage.specs.Lineage.{block_inputs}
-use Rattle.gx_cluster_state.proofs.Positions.{slice_get-below}
+use Rattle.gx_cluster_state.specs.PositionLaws.{slice_get-below}
 use Rattle.gx_cluster.specs.States.{AreContents}
-use Rattle.gx_cluster.proofs.ShapeOf.{busy_task, task_busy}
+use Rattle.gx_cluster.specs.ShapeLaws.{busy_task, task_busy}
 use Rattle.gx_cluster.proofs.cluster.Cluster.compute.Goals as goal
 
 pub unreachable-requires : goal.unreachable-requires

@@ -2,7 +2,7 @@ use Rattle.std.proofs.Common.{◌≡◌, ◌∙◌, [], ap, subst, sym}
 use Rattle.gx_cluster_state.specs.Nets.{net_of}
 use Rattle.gx_cluster_state.specs.Turns.{Turns, ended}
 use Rattle.gx_cluster.specs.States.{shape}
-use Rattle.gx_cluster.proofs.ShapeOf.{shape-spare}
+use Rattle.gx_cluster.specs.ShapeLaws.{shape-spare}
 use Rattle.gx_cluster.proofs.cluster.Cluster.demand.Goals as goal
 
 pub returns-in_err-reserve_spare-clause-turns : goal.returns-in_err-reserve_spare-clause-turns

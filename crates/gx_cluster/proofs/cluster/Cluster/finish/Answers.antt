@@ -2,8 +2,8 @@ use Rattle.std.proofs.Common.{◌∙◌, Some, None, ap, length, subst, sym}
 use Rattle.std.proofs.lemmas.List.{length-set}
 use Rattle.gx_cluster_state.specs.Shapes.{finished}
 use Rattle.gx_cluster.specs.States.{HoldsContents, shape}
-use Rattle.gx_cluster.proofs.ShapeOf.{worker_below}
-use Rattle.gx_cluster.proofs.StateChanges.{contents_value, shape-with_value}
+use Rattle.gx_cluster.specs.ShapeLaws.{worker_below}
+use Rattle.gx_cluster.specs.StateLaws.{contents_value, shape-with_value}
 use Rattle.gx_cluster.proofs.cluster.Cluster.finish.Goals as goal
 
 pub hold-requires : goal.hold-requires

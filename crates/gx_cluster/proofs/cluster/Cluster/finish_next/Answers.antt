@@ -1,13 +1,13 @@
 use Rattle.std.proofs.Common.{◌∙◌, ◌<◌, ⊎_elim, subst, sym}
 use Rattle.std.specs.Prelude.{All}
 use Rattle.gx_lineage.specs.Lineage.{IsBlock}
-use Rattle.gx_cluster_state.specs.Measures.{turns_left}
+use Rattle.gx_cluster_state.specs.Measures.{lineage_blocks, turns_left}
 use Rattle.gx_cluster_state.specs.Nets.{net_of}
-use Rattle.gx_cluster_state.proofs.Progress.{a_worker_is_busy, busy_at, idle_or_busy}
-use Rattle.gx_cluster_state.proofs.TurnsLeft.{finish_lowers}
-use Rattle.gx_cluster_state.proofs.WantedBlocks.{wanted_in}
+use Rattle.gx_cluster_state.specs.ProgressLaws.{a_worker_is_busy, busy_at, idle_or_busy}
+use Rattle.gx_cluster_state.specs.TurnsLeftLaws.{finish_lowers}
+use Rattle.gx_cluster_state.specs.WantedBlockLaws.{wanted_in}
 use Rattle.gx_cluster.specs.Agendas.{waiting_for}
-use Rattle.gx_cluster.specs.States.{lineage_blocks, shape}
+use Rattle.gx_cluster.specs.States.{shape}
 use Rattle.gx_cluster.proofs.Lists.{on_ok, on_ok_any}
 use Rattle.gx_cluster.proofs.Members.{All-from_has}
 use Rattle.gx_cluster.proofs.TurnSteps.{after_finish, after_same, no_start_is_stuck, refiled}

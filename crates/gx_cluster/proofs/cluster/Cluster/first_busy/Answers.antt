@@ -1,6 +1,6 @@
 use Rattle.std.proofs.Common.{arith}
 use Rattle.std.proofs.lemmas.List.{length-map}
-use Rattle.gx_cluster.proofs.ShapeOf.{running-shape}
+use Rattle.gx_cluster.specs.ShapeLaws.{running-shape}
 use Rattle.gx_cluster.proofs.cluster.Cluster.first_busy.Goals as goal
 
 pub returns : goal.returns

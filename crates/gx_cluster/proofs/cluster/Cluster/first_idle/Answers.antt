@@ -1,4 +1,4 @@
-use Rattle.gx_cluster.proofs.ShapeOf.{running-shape}
+use Rattle.gx_cluster.specs.ShapeLaws.{running-shape}
 use Rattle.gx_cluster.proofs.cluster.Cluster.first_idle.Goals as goal
 
 pub returns : goal.returns

@@ -1,4 +1,4 @@
-use Rattle.gx_cluster.proofs.ShapeOf.{is_held-shape}
+use Rattle.gx_cluster.specs.ShapeLaws.{is_held-shape}
 use Rattle.gx_cluster.proofs.cluster.Cluster.is_held.Goals as goal
 
 pub returns : goal.returns

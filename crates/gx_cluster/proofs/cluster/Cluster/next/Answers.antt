@@ -1,13 +1,13 @@
 use Rattle.std.proofs.Common.{◌<◌, [], subst, sym}
-use Rattle.gx_cluster_state.specs.Measures.{turns_left}
+use Rattle.gx_cluster_state.specs.Measures.{lineage_blocks, turns_left}
 use Rattle.gx_cluster_state.specs.Nets.{net_of}
-use Rattle.gx_cluster_state.proofs.Progress.{idle_at}
-use Rattle.gx_cluster_state.proofs.TurnsLeft.{start_lowers}
-use Rattle.gx_cluster_state.proofs.WantedBlocks.{wanted_in, wanted_missing}
+use Rattle.gx_cluster_state.specs.ProgressLaws.{idle_at}
+use Rattle.gx_cluster_state.specs.TurnsLeftLaws.{start_lowers}
+use Rattle.gx_cluster_state.specs.WantedBlockLaws.{wanted_in, wanted_missing}
 use Rattle.gx_cluster.specs.Agendas.{IsAgenda}
-use Rattle.gx_cluster.specs.States.{lineage_blocks, shape}
+use Rattle.gx_cluster.specs.States.{shape}
 use Rattle.gx_cluster.proofs.AgendaTurns.{least_ready, started_agenda}
-use Rattle.gx_cluster.proofs.LineageBlocks.{block_is_listed}
+use Rattle.gx_cluster_state.specs.LineageBlockLaws.{block_is_listed}
 use Rattle.gx_cluster.proofs.Lists.{either_way, on_ok}
 use Rattle.gx_cluster.proofs.TurnSteps.{after_same, after_start}
 use Rattle.gx_cluster.proofs.cluster.Cluster.next.Goals as goal

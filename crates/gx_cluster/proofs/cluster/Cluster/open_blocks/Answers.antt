@@ -1,7 +1,7 @@
 use Rattle.std.proofs.Common.{◌≡◌, ◌∙◌, [], Less, subst, sym}
 use Rattle.gx_cluster_state.specs.Blocks.{block_cmp, same_block}
 use Rattle.gx_cluster_state.specs.Nets.{net_of}
-use Rattle.gx_cluster_state.proofs.WantedBlocks.{wanted_in}
+use Rattle.gx_cluster_state.specs.WantedBlockLaws.{wanted_in}
 use Rattle.gx_cluster.specs.States.{shape}
 use Rattle.gx_cluster.specs.Sweeps.{AddsMissing, IsSweep}
 use Rattle.gx_cluster.proofs.FoundBlocks.{height_falls, smaller_by_added, smaller_by_order, sweep_end, sweep_more, sweep_running, sweep_start, was_in_front}

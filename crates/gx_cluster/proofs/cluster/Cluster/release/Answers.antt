@@ -4,7 +4,7 @@ use Rattle.std.proofs.lemmas.Map.Made.{filter_same_pairs}
 use Rattle.gx_lineage.specs.declared.block_id.BlockId.{BlockId}
 use Rattle.gx_cluster_state.specs.declared.held.Held.{Held}
 use Rattle.gx_cluster.specs.States.{shape}
-use Rattle.gx_cluster.proofs.StateChanges.{shape-with_release, state_released}
+use Rattle.gx_cluster.specs.StateLaws.{shape-with_release, state_released}
 use Rattle.gx_cluster.proofs.cluster.Cluster.release.Goals as goal
 
 pub returns : goal.returns

@@ -4,7 +4,7 @@ use Rattle.std.proofs.lemmas.List.{take_all}
 use Rattle.std.proofs.lemmas.List.Elements.{All-more, All-nil, All-weaker}
 use Rattle.gx_cluster_state.specs.Nets.{net_of}
 use Rattle.gx_cluster_state.specs.Shapes.{is_held}
-use Rattle.gx_cluster_state.proofs.Progress.{all_held-from}
+use Rattle.gx_cluster_state.specs.ProgressLaws.{all_held-from}
 use Rattle.gx_cluster.specs.Agendas.{IsAgenda}
 use Rattle.gx_cluster.specs.States.{shape}
 use Rattle.gx_cluster.proofs.TurnSteps.{after_none, after_then}

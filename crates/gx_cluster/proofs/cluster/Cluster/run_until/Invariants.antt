@@ -1,8 +1,8 @@
 use Rattle.std.proofs.Common.{[]}
-use Rattle.gx_cluster_state.specs.Measures.{turns_left}
+use Rattle.gx_cluster_state.specs.Measures.{lineage_blocks, turns_left}
 use Rattle.gx_cluster_state.specs.Nets.{net_of}
 use Rattle.gx_cluster.specs.Agendas.{IsAgenda}
-use Rattle.gx_cluster.specs.States.{IsAfterTurns, lineage_blocks, shape}
+use Rattle.gx_cluster.specs.States.{IsAfterTurns, shape}
 use Rattle.gx_cluster.proofs.cluster.Cluster.run_until.Given as goal
 
 abbrev pub invariant-turns : goal.invariant-turns

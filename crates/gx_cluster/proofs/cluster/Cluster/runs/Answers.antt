@@ -1,4 +1,4 @@
-use Rattle.gx_cluster.proofs.ShapeOf.{is_running-shape}
+use Rattle.gx_cluster.specs.ShapeLaws.{is_running-shape}
 use Rattle.gx_cluster.proofs.cluster.Cluster.runs.Goals as goal
 
 pub returns : goal.returns

@@ -4,8 +4,8 @@ use Rattle.std.specs.Prelude.{All, IsSome}
 use Rattle.gx_lineage.specs.Lineage.{block_inputs}
 use Rattle.gx_cluster.specs.States.{AreContents, HoldsContents, held_value, shape}
 use Rattle.gx_cluster.proofs.Lists.{either_way, on_ok}
-use Rattle.gx_cluster.proofs.ShapeOf.{held_values, worker_below}
-use Rattle.gx_cluster.proofs.StateChanges.{are_contents, contents_task, shape-with_task}
+use Rattle.gx_cluster.specs.ShapeLaws.{held_values, worker_below}
+use Rattle.gx_cluster.specs.StateLaws.{are_contents, contents_task, shape-with_task}
 use Rattle.gx_cluster.proofs.cluster.Cluster.start.Goals as goal
 
 pub start_with-requires-clause-worker : goal.start_with-requires-clause-worker

@@ -2,7 +2,7 @@ use Rattle.std.proofs.Common.{◌≡◌, map, refl, sym, subst, arith}
 use Rattle.std.specs.Prelude.{is_none, length}
 use Rattle.std.proofs.lemmas.List.{length-map}
 use Rattle.gx_cluster_state.specs.Tasks.{task_block}
-use Rattle.gx_cluster_state.proofs.Positions.{NonePassBefore, none_pass_before-more, position-is, position-none, slice_get-mapped}
+use Rattle.gx_cluster_state.specs.PositionLaws.{NonePassBefore, none_pass_before-more, position-is, position-none, slice_get-mapped}
 use Rattle.gx_cluster_state.proofs.workers.Workers.first_idle.Goals as goal
 
 pub returns-in-None : goal.returns-in-None

@@ -3,7 +3,7 @@ use Rattle.std.specs.Prelude.{length, option_map, slice_get}
 use Rattle.std.proofs.lemmas.List.{length-map}
 use Rattle.gx_cluster_state.specs.Shapes.{runs_block}
 use Rattle.gx_cluster_state.specs.Tasks.{task_block}
-use Rattle.gx_cluster_state.proofs.Positions.{NonePassBefore, list_any-at, list_any-none, none_pass_before-more, slice_get-mapped}
+use Rattle.gx_cluster_state.specs.PositionLaws.{NonePassBefore, list_any-at, list_any-none, none_pass_before-more, slice_get-mapped}
 use Rattle.gx_cluster_state.proofs.workers.Workers.runs.Goals as goal
 
 -- what a worker runs, by what it says of a block

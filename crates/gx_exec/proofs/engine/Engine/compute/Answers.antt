@@ -10,7 +10,7 @@ use Rattle.gx_exec.proofs.engine.Engine.compute.Goals as goal
 pub returns-in_err-push_blocks-clause-turns : goal.returns-in_err-push_blocks-clause-turns
 returns-in_err-push_blocks-clause-turns c =
     none-demanded c.args.self.now c.is_set.ensures (targets_of c.args.self.now.world c.args.nodes.now)
-    (targets-inside c.args.self.now c.is_set.ensures c.args.nodes.now c.requires.may) c.args.cluster.now
+    (targets-inside c.args.self.now c.is_set.ensures c.args.nodes.now c.requires.may) c.args.cluster.now c.args.events.now
 
 pub demand-requires-clause-contents : goal.demand-requires-clause-contents
 demand-requires-clause-contents c = subst (λ e. HoldsWorkOf e c.args.cluster.now) (sym c.self.view_is) c.requires.contents
@@ -28,7 +28,7 @@ returns-clause-turns c =
     let same : c.as_slice.result.now ≡ ts = c.as_slice.ensures.value ∙ c.in_ok-push_blocks.ensures ∙ ap (λ bs. bs ++ ts) c.new-targets.ensures.items in
     has-demanded c.args.self.now c.self.inside.work c.is_set.ensures ts c.as_slice.result.now
     (targets-inside c.args.self.now c.is_set.ensures c.args.nodes.now c.requires.may) c.self.view_is same
-    c.args.cluster.now c.demand.new.self c.demand.new.events c.args.events.now (c.demand.ensures.events_kept ∙ c.requires.no_events) c.requires.no_events
+    c.args.cluster.now c.demand.new.self c.demand.new.events c.args.events.now
     c.requires.contents c.demand.ensures.turns
 
 pub returns-clause-contents_kept : goal.returns-clause-contents_kept

@@ -1,5 +1,5 @@
 use Rattle.std.proofs.Common.{rules}
-use Rattle.gx_plan.proofs.OneNode.{inputs-earlier}
+use Rattle.gx_plan.specs.OneNodeLaws.{inputs-earlier}
 use Rattle.gx_plan.proofs.plan.Plan.inputs.Goals as goal
 
 pub returns-clause-earlier : goal.returns-clause-earlier
