@@ -1,3 +1,4 @@
 pub mod Edges
 pub mod Ends
+pub mod LentTables
 pub mod Rows
