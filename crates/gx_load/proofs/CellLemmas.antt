@@ -1,11 +1,12 @@
 -- The whole number that a text spells: `parse` finds it, and only UTF-8 spells one.
-use Rattle.std.proofs.Common.{◌≡◌, ◌∷◌, [], ◌<◌, ℕ, ℤ, Bool, List, None, Some, Result, Ok, Err, true, false, refl, sym, arith, zero, suc, get_or, inl, inr}
+use Rattle.std.proofs.Common.{◌≡◌, ◌∷◌, [], ◌<◌, ◌≤◌, ◌^◌, ap, length, ℕ, ℤ, Bool, List, None, Some, Result, Ok, Err, true, false, refl, sym, arith, zero, suc, get_or, inl, inr}
 use Rattle.std.proofs.lemmas.Bool.{ltb-true, lt-ltb}
 use Rattle.std.proofs.lemmas.Bool.Decides.{eqb_tells}
 use Rattle.std.proofs.lemmas.Str.{IsUtf8-from_ascii}
 use Rattle.std.proofs.lemmas.Fmt.{IsAscii-from_digits}
 use Rattle.std.proofs.lemmas.Str.Parse.{IsNumeralModel, numerals_by_value, tells_all_ascii_digits}
 use Rattle.std.specs.Prelude.{pos, negsuc, FitsSigned, IsUtf8, ◌&&◌, if◌then◌else◌}
+use Rattle.std.specs.Char.{digit_value}
 use Rattle.std.specs.Int.{w64}
 use Rattle.std.specs.Result.{result_ok}
 use Rattle.std.specs.Str.{IsAscii, all_ascii_digits}
@@ -86,3 +87,22 @@ unfolding field_at
 cell-no_field [] position e = refl
 cell-no_field (f ∷ fs) zero e = cc e
 cell-no_field (f ∷ fs) (suc i) e = cell-no_field fs i e
+
+-- digits alone spell their number, if it has 64 bits
+pub number_of-digits : (text : List ℕ) (n : ℕ) → 0 < length text → AllDigits 10 text → digits_value 10 text ≡ n → n < 2 ^ 63 → number_of text ≡ Some (pos n)
+unfolding number_of
+number_of-digits [] n some all value small = absurd (omega arith)
+number_of-digits (c ∷ cs) n some all value small =
+    elim (eqb_tells c 45) [
+      | inl minus ↦ absurd (not_a_digit c 45 minus.1 all.0 (omega arith))
+      | inr other ↦ elim (eqb_tells c 43) [
+        | inl plus ↦ absurd (not_a_digit c 43 plus.1 all.0 (omega arith))
+        | inr digit ↦
+            let test : is_numeral (c ∷ cs) ≡ true = numeral_back (c ∷ cs) (omega arith, all) in
+            let fits : fits_64_bits (pos (digits_value 10 (c ∷ cs))) ≡ true = lt-ltb _ _ (omega arith) in
+            rw (other.0, digit.0, test, fits, value) refl
+      ]
+    ]
+  where
+    not_a_digit : (c d : ℕ) → c ≡ d → digit_value c < 10 → 10 ≤ digit_value d → ⊥
+    not_a_digit c d same low high = omega (arith, ap digit_value same)
