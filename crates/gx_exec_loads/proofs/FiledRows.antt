@@ -1,15 +1,38 @@
 -- Rows that are filed one after another, and loads one after another.
-use Rattle.std.proofs.Common.{◌≡◌, ◌≢◌, ℕ, ◌+◌, ◌<◌, ◌==◌, Bool, true, false, cond, List, [], ◌∷◌, ◌++◌, Some, length, get_or, set, replicate, append_assoc, arith, refl, sym, ap, ap₂, ◌∙◌, subst, inl, inr}
+use Rattle.std.proofs.Common.{◌≡◌, ◌≢◌, ℕ, ℤ, ◌+◌, ◌%◌, ◌<◌, ◌==◌, Bool, true, false, cond, List, [], ◌∷◌, ◌++◌, Some, length, get_or, set, replicate, append_assoc, arith, refl, sym, ap, ap₂, ◌∙◌, subst, inl, inr}
 use Rattle.std.specs.List.{slice_get}
 use Rattle.std.specs.Prelude.{unwrap_or}
 use Rattle.std.proofs.lemmas.Bool.{eq-eqb, eqb-true, cases_lt}
 use Rattle.std.proofs.lemmas.List.{append-nil, get_or-replicate, get_or-set_other, get_or-set_same, get_or_append_left, get_or_default, length-append, length-replicate, length-set}
 use Rattle.std.proofs.lemmas.Option.{slice_get_within}
 use Rattle.std.proofs.Math.Seq.{get_or-append_seam}
+use Rattle.gx_cuts.specs.Places.{place_of}
+use Rattle.gx_cuts.specs.declared.cut.Cut.{Cut}
+use Rattle.gx_cuts.specs.declared.cut.Cut.TheVariants.{OneD, TwoD, Random, Canonical, Rows}
 use Rattle.gx_exec_contents.specs.Worlds.{World}
 use Rattle.gx_load.specs.Loading.{LoadedRow}
 use Rattle.gx_model.specs.Values.{rows_loaded}
+use Rattle.gx_plan.specs.declared.kind.Kind.{Kind}
+use Rattle.gx_plan.specs.declared.kind.Kind.TheVariants as kind
 use Rattle.gx_exec_loads.specs.Filing.{AreFiled, IsFiled, kind_in, part_of_row, positions_in_part}
+
+-- ---- a lone part has all rows
+
+zero_of_one : (n parts : ℕ) → parts ≡ 1 → n % parts ≡ 0
+zero_of_one n parts one = omega arith
+
+place_of-one : (cut : Cut) (parts : ℕ) (src dst : ℤ) (n : ℕ) → parts ≡ 1 → place_of cut parts src dst n ≡ 0
+place_of-one OneD parts src dst n one = zero_of_one _ parts one
+place_of-one TwoD parts src dst n one = zero_of_one _ parts one
+place_of-one Random parts src dst n one = zero_of_one _ parts one
+place_of-one Canonical parts src dst n one = zero_of_one _ parts one
+place_of-one Rows parts src dst n one = zero_of_one _ parts one
+
+pub part_of_row-one : (k : Kind) (cut : Cut) (parts n : ℕ) (row : LoadedRow) → parts ≡ 1 → part_of_row k cut parts n row ≡ 0
+part_of_row-one kind.Vertices cut parts n row one = zero_of_one _ parts one
+part_of_row-one kind.Edges cut parts n row one = place_of-one cut parts row.0.0 row.1.0 n one
+
+-- ---- rows one after another
 
 -- the rows before the rest are filed, and the rest begins at position n
 pub record AreFiledBefore (part_of : ℕ → LoadedRow → ℕ) (parts n : ℕ) (rest rows : List LoadedRow) (lists : List (List ℕ)) : Type 0 where

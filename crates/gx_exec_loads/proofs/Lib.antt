@@ -1,4 +1,3 @@
 pub mod FiledRows
 pub mod RowsOfParts
-pub mod Ascending
 pub mod RowsOfLoads

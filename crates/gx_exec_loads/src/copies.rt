@@ -1,21 +1,22 @@
-//! The rows at given positions, copied or lent.
+//! The rows at given positions, lent.
 
 ghost use Rattle.std.specs.Prelude.{◌≡◌, ◌∷◌, ◌++◌, IfOk, OnOk, [], map, slice_get};
 ghost use Rattle.std.specs.Option.{option_copied};
 ghost use Rattle.gx_epart.specs.Edges.{edges_lent};
 ghost use Rattle.gx_exec_loads.specs.Filing.{items_at, vertex_of_row};
+ghost use Rattle.gx_vpart.specs.LentRows.{vertices_lent};
 
 use gx_rows::{NoMemory, Row, Vid};
 use std::alloc::Global;
 
-/// The identifier and the row of each row at these positions.
-pub(crate) fn vertices_at(
+/// The identifier and the row of each row at these positions. The rows are lent.
+pub(crate) fn vertices_at<'a>(
     alloc: Global,
-    rows: &[(Vid, Vid, Row)],
+    rows: &'a [(Vid, Vid, Row)],
     positions: &[u32],
-) -> Result<Vec<(Vid, Row)>, NoMemory>
+) -> Result<Vec<(Vid, &'a Row)>, NoMemory>
     ensures { IfOk result (λ vs.
-        vs.items ≡ map vertex_of_row (items_at rows.now positions.now)) }
+        vertices_lent vs.items ≡ map vertex_of_row (items_at rows.now positions.now)) }
 {
     let mut vertices = Vec::with_capacity(alloc, positions.len())?;
     let mut rest = positions;
@@ -26,16 +27,16 @@ pub(crate) fn vertices_at(
     Ok(vertices)
 }
 
-fn append_vertex(
-    vertices: &mut Vec<(Vid, Row)>,
-    rows: &[(Vid, Vid, Row)],
+fn append_vertex<'a>(
+    vertices: &mut Vec<(Vid, &'a Row)>,
+    rows: &'a [(Vid, Vid, Row)],
     n: u32,
 ) -> Result<(), NoMemory>
-    ensures { OnOk result (vertices.new.items
-        ≡ vertices.old.items ++ map vertex_of_row (items_at rows.now (n ∷ []))) }
+    ensures { OnOk result (vertices_lent vertices.new.items
+        ≡ vertices_lent vertices.old.items ++ map vertex_of_row (items_at rows.now (n ∷ []))) }
 {
     match row_at(rows, n) {
-        Some(row) => append(vertices, (row.0, row.2.copy()?)),
+        Some(row) => append(vertices, (row.0, &row.2)),
         None => Ok(()),
     }
 }

@@ -61,6 +61,10 @@ fn part_of_row(kind: Kind, cut: Cut, parts: u32, n: u32, row: &(Vid, Vid, Row)) 
     ensures exact { result ≡ filing.part_of_row kind cut parts n row.now }
     ensures below { result < parts }
 {
+    // All rows are in a lone part, whatever the cut.
+    if parts == 1 {
+        return 0;
+    }
     match kind {
         Kind::Vertices => vertex_part(parts, row.0.0),
         Kind::Edges => place(cut, parts, row.0.0, row.1.0, n as u64),

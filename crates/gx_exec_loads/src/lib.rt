@@ -12,6 +12,5 @@ mod copies;
 mod filing;
 mod loaded_parts;
 mod positions;
-mod table;
 
 pub use loaded_parts::LoadedParts;

@@ -13,8 +13,8 @@ ghost use Rattle.gx_plan.specs.declared.kind.Kind.TheVariants as kinds;
 use crate::copies::{append, edges_at, vertices_at};
 use crate::filing::{filed, kind_of};
 use crate::positions::Positions;
-use crate::table;
 use gx_epart::{EPart, edge_order_is_unique};
+use gx_gops::table_of_lent;
 use gx_load::Loads;
 use gx_rows::{Cut, NoMemory, Row, Vid};
 use gx_types::Typed;
@@ -111,7 +111,7 @@ impl LoadedParts {
             (part_of_vertices self.now.parts part (vertices_loaded self.now.loads s))) }
     {
         let (rows, positions) = self.rows_of_part(s, part);
-        table::table_of(self.alloc, vertices_at(self.alloc, rows, positions)?)
+        table_of_lent(self.alloc, vertices_at(self.alloc, rows, positions)?)
     }
 
     /// The edges of a part that statement `s` loaded. The rows of the part are copied once.
