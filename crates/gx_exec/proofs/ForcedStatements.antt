@@ -73,16 +73,16 @@ module _ (e f : PlannedWorld) (s : ℕ) (fresh : was_added e.planned s ≡ false
     after-contents c contents = subst (λ g. HoldsWorkOf g c) (sym is) (work-kept e.world e.planned (with_number (source_of e.world) e.planned s) setting (fresh-front e setting s may fresh) c contents)
 
     pub after-added : IsAdded f.planned s
-    after-added = subst (λ g. IsAdded g.planned s) (sym is) (added-here e.world.script e.planned s may.from_one setting.plan may.within)
+    after-added = subst (λ g. IsAdded g.planned s) (sym is) (added-here (source_of e.world) e.planned s may.from_one setting.plan may.within)
 
     pub after-others : (n : ℕ) → n ≢ s → 1 ≤ n → was_added f.planned n ≡ was_added e.planned n
-    after-others n apart low = ap (λ g. was_added g.planned n) is ∙ others-kept e.world.script e.planned s may.from_one n apart low
+    after-others n apart low = ap (λ g. was_added g.planned n) is ∙ others-kept (source_of e.world) e.planned s may.from_one n apart low
 
     steady-now : AreQuiet f → fault_of_number (loaded_in e.world) s ≡ None → IsSteady f
     steady-now quiet none = record {
       quiet = quiet;
       clean = subst (λ g. (n : ℕ) → IsAdded g.planned n → fault_of_number (loaded_in g.world) n ≡ None) (sym is)
-          (λ n added. elim (added-cases e.world.script e.planned s may.from_one n added) [
+          (λ n added. elim (added-cases (source_of e.world) e.planned s may.from_one n added) [
             | inl before ↦ steady.clean n before
             | inr same ↦ subst (λ m. fault_of_number (loaded_in e.world) m ≡ None) (sym same) none
           ]);

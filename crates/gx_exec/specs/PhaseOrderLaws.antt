@@ -73,9 +73,17 @@ no_gap w p n within = record { order = omega arith; within = within; none = λ k
 
 order-from : (w : World) (p : Planned) (n count : ℕ) (rest : List (List NodeId)) → n + count ≤ length p.lineage.nodes → AreInOrder w p (n + count) rest → AreInOrder w p n (nodes_from n count ++ rest)
 order-from w p n zero rest within order = subst (λ m. AreInOrder w p m rest) (let same : n + 0 ≡ n = omega arith in same) order
-order-from w p n (suc count) rest within order =
-    (n, (no_gap w p n (omega (arith, within)), inr (refl, order-from w p (n + 1) count rest (omega (arith, within))
-    (subst (λ m. AreInOrder w p m rest) (let same : n + suc count ≡ n + 1 + count = omega arith in same) order))))
+order-from w p n (suc count) rest within order = (
+  n,
+  (
+    no_gap w p n (omega (arith, within)),
+    inr (
+      refl,
+      order-from w p (n + 1) count rest (omega (arith, within))
+          (subst (λ m. AreInOrder w p m rest) (let same : n + suc count ≡ n + 1 + count = omega arith in same) order),
+    ),
+  ),
+)
 
 order-earlier : (w : World) (p : Planned) (n : ℕ) (phases : List (List NodeId)) → n ≡ length p.lineage.nodes → AllByRecursion (λ ns. AllByRecursion (λ m. m.0 < n) ns) phases → AreInOrder w p n phases
 order-earlier w p n [] last below = subst (AreFaultless w p n) last (no_gap w p n (omega (arith, last)))
