@@ -12,12 +12,16 @@ mod arithmetic;
 mod evaluate;
 mod expr;
 mod functions;
+mod leaf;
 mod operations;
 mod operators;
 mod projections;
 mod rows;
 mod scope;
+mod shape;
+mod shape_rows;
 mod side;
+mod term;
 #[cfg(test)]
 mod tests;
 
@@ -26,4 +30,6 @@ pub use expr::Expr;
 pub use operators::{BinaryOp, Function, UnaryOp};
 pub use rows::eval_row;
 pub use scope::Scope;
+pub use shape::Shape;
+pub use shape_rows::{eval_shapes, shapes_of};
 pub use side::Side;
