@@ -85,11 +85,6 @@ slice_get-none [] i none = omega arith
 slice_get-none (x ∷ xs) zero none = cc
 slice_get-none (x ∷ xs) (suc i) none = omega (arith, slice_get-none xs i none)
 
-pub drop-slot : {A : Type 0} (xs : List A) (i : ℕ) (x : A) → slice_get xs i ≡ Some x → drop i xs ≡ x ∷ drop (i + 1) xs
-drop-slot [] i x at = cc
-drop-slot (y ∷ xs) zero x at = cc
-drop-slot (y ∷ xs) (suc i) x at = let same : suc i + 1 ≡ suc (i + 1) = omega arith in rw same (drop-slot xs i x at)
-
 pub drop-past : {A : Type 0} (xs : List A) (i : ℕ) → length xs ≤ i → drop i xs ≡ []
 drop-past [] zero past = refl
 drop-past [] (suc i) past = refl
@@ -110,19 +105,6 @@ nonempty-chunk xs c i k same within =
 
 pub IsPieceAt-start : {A : Type 0} (xs : List A) → IsPieceAt 0 [] xs
 IsPieceAt-start xs = record { rest = xs; split = refl }
-
--- the first item of a piece, and the items after it
-pub slice_get-piece : {A : Type 0} (xs : List A) (i : ℕ) (x : A) (piece : List A) → IsPieceAt i (x ∷ piece) xs → slice_get xs i ≡ Some x
-slice_get-piece xs i x piece at = first xs i at.split
-  where
-    first : {A : Type 0} {x : A} {rest : List A} (xs : List A) (i : ℕ) → drop i xs ≡ x ∷ rest → slice_get xs i ≡ Some x
-    first [] zero split = cc
-    first [] (suc i) split = cc
-    first (y ∷ ys) zero split = cc
-    first (y ∷ ys) (suc i) split = first ys i split
-
-pub IsPieceAt-rest : {A : Type 0} (xs : List A) (i : ℕ) (x : A) (piece : List A) → IsPieceAt i (x ∷ piece) xs → IsPieceAt (i + 1) piece xs
-IsPieceAt-rest xs i x piece at = record { rest = at.rest; split = sym (drop-drop 1 i xs) ∙ ap (drop 1) at.split }
 
 pub items_of_chunks-append : {A : Type 0} (cs ds : List (List A)) → items_of_chunks (cs ++ ds) ≡ items_of_chunks cs ++ items_of_chunks ds
 items_of_chunks-append [] ds = refl

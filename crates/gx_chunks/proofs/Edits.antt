@@ -8,7 +8,8 @@ use Rattle.std.proofs.lemmas.List.{append-nil, drop-append-le, length-map, lengt
 use Rattle.std.proofs.lemmas.List.Folds.{drop_split}
 use Rattle.gx_chunks.specs.Chunks.{HasChunksOf, items_of_chunks, shared_chunks}
 use Rattle.gx_chunks.specs.Editing.{IsEdit, edited_items}
-use Rattle.gx_chunks.proofs.Chunks.{drop-past, drop-slot, item_of, items_of_chunks-append, items_of_chunks-push, slice_get-chunks}
+use Rattle.gx_rows.specs.ListLaws.{drop-at}
+use Rattle.gx_chunks.proofs.Chunks.{drop-past, item_of, items_of_chunks-append, items_of_chunks-push, slice_get-chunks}
 
 slice_get-within : {A : Type 0} (xs : List A) (i : ℕ) (x : A) → slice_get xs i ≡ Some x → i < length xs
 slice_get-within [] i x at = cc
@@ -51,7 +52,7 @@ edited_items-at : {A : Type 0} (done : List (List A)) (first : List A) (old : Li
     → slice_get old (length done) ≡ Some c → length first ≤ length c
     → edited_items done first old ≡ items_of_chunks done ++ ((first ++ drop (length first) c) ++ items_of_chunks (drop (length done + 1) old))
 edited_items-at done first old c at within =
-    rw (drop-slot old (length done) c at, drop-append-le (length first) c (items_of_chunks (drop (length done + 1) old)) within)
+    rw (drop-at old (length done) c at, drop-append-le (length first) c (items_of_chunks (drop (length done + 1) old)) within)
     (ap (λ xs. items_of_chunks done ++ xs) (sym (append_assoc first (drop (length first) c) (items_of_chunks (drop (length done + 1) old)))))
 
 pub IsEdit-start : {A : Type 0} (size : ℕ) (old : List (List A)) → HasChunksOf size old → IsEdit {A = A} size [] [] old
@@ -70,7 +71,7 @@ IsEdit-pass size done first old c new edit at is =
     let many : length new ≡ length c = ap length is ∙ length-swap first c within in
     let one_more : length (done ++ new ∷ []) ≡ length done + 1 = omega (arith, length-append done (new ∷ [])) in
     record {
-      even = rw (one_more, append_assoc) (HasChunksOf-swap size done c new (drop (length done + 1) old) many (rw (drop-slot old (length done) c at) at edit.even));
+      even = rw (one_more, append_assoc) (HasChunksOf-swap size done c new (drop (length done + 1) old) many (rw (drop-at old (length done) c at) at edit.even));
       not_over = omega arith;
       not_past = omega (arith, slice_get-within old (length done) c at);
     }
@@ -151,7 +152,7 @@ pub edited_items-put : {A : Type 0} (size slot k : ℕ) (done : List (List A)) (
     → edited_items done new old ≡ set (edited_items done first old) slot x
 edited_items-put size slot k done first new old c x edit at fits inside is put =
     let within = not_over-at size done first old c edit at in
-    let here : slot ≡ length (items_of_chunks done) + k = is ∙ ap (λ n. n + k) (sym (length-full_chunks size done c (drop (length done + 1) old) (rw (drop-slot old (length done) c at) at edit.even))) in
+    let here : slot ≡ length (items_of_chunks done) + k = is ∙ ap (λ n. n + k) (sym (length-full_chunks size done c (drop (length done + 1) old) (rw (drop-at old (length done) c at) at edit.even))) in
     let small : k < length (first ++ drop (length first) c) = omega (arith, length-swap first c within) in
     rw (edited_items-at done new old c at fits, edited_items-at done first old c at within, put, here, set-right, set-append_left (first ++ drop (length first) c) (items_of_chunks (drop (length done + 1) old)) k x small) refl
 
@@ -191,7 +192,7 @@ put-after {A = A} first c made slot x from within is =
     omega (arith, length-append first between, length-take-le (slot - length first) (drop (length first) c) (omega (arith, length-drop (length first) c))) in
     let made_many : length made ≡ slot + 1 = omega (arith, ap length is, length-append (first ++ between) (x ∷ []), many) in
     let parts : first ++ drop (length first) c ≡ (first ++ between) ++ found.0 ∷ drop (slot + 1) c =
-    ap (λ xs. first ++ xs) (drop_split c (length first) slot from) ∙ sym (append_assoc first between (drop slot c)) ∙ ap (λ xs. (first ++ between) ++ xs) (drop-slot c slot found.0 found.1) in
+    ap (λ xs. first ++ xs) (drop_split c (length first) slot from) ∙ sym (append_assoc first between (drop slot c)) ∙ ap (λ xs. (first ++ between) ++ xs) (drop-at c slot found.0 found.1) in
     rw (made_many, is, parts, set_at (first ++ between) found.0 (drop (slot + 1) c) x slot many) (append_assoc (first ++ between) (x ∷ []) (drop (slot + 1) c))
 
 pub length-put : {A : Type 0} (first c : List A) (slot : ℕ) → length first ≤ slot → slot < length c → length (first ++ slice_range c (length first) slot) ≡ slot

@@ -1,2 +1,3 @@
 pub mod Chunks
 pub mod Editing
+pub mod PieceLaws

@@ -92,6 +92,16 @@ is_arithmetic binary.Div = true
 is_arithmetic binary.Rem = true
 is_arithmetic _ = false
 
+-- the operators that compare two values
+abbrev pub is_comparison : BinaryOp → Bool
+is_comparison binary.Eq = true
+is_comparison binary.Ne = true
+is_comparison binary.Lt = true
+is_comparison binary.Le = true
+is_comparison binary.Gt = true
+is_comparison binary.Ge = true
+is_comparison _ = false
+
 abbrev pub int_result : Result ℤ Cause → Result Value Cause
 int_result step = step >>= λ z. Ok (value.Int z)
 

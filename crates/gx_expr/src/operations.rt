@@ -38,8 +38,8 @@ pub(crate) fn unary(n: u32, operator: UnaryOp, a: &Value) -> Result<Value, EvalS
     }
 }
 
-// Whether a comparison holds. Other operators compare nothing.
-fn compares(operator: BinaryOp, order: Ordering) -> bool
+/// Whether a comparison holds. Other operators compare nothing.
+pub(crate) fn compares(operator: BinaryOp, order: Ordering) -> bool
     ensures { result ≡ comparison operator order }
 {
     match operator {

@@ -1,7 +1,7 @@
 //! Operators and functions. What they mean is in specs/.
 
 ghost use Rattle.std.specs.Prelude.{◌≡◌};
-ghost use Rattle.gx_expr.specs.Evaluation.{is_arithmetic};
+ghost use Rattle.gx_expr.specs.Evaluation.{is_arithmetic, is_comparison};
 
 /// A prefix operator.
 #[derive(Clone, Copy, Debug, PartialEq, Eq)]
@@ -51,6 +51,16 @@ impl BinaryOp {
         matches!(
             self,
             BinaryOp::Add | BinaryOp::Sub | BinaryOp::Mul | BinaryOp::Div | BinaryOp::Rem
+        )
+    }
+
+    /// Whether it is an operator that compares two values.
+    pub(crate) fn is_comparison(self) -> bool
+        ensures { result ≡ is_comparison self }
+    {
+        matches!(
+            self,
+            BinaryOp::Eq | BinaryOp::Ne | BinaryOp::Lt | BinaryOp::Le | BinaryOp::Gt | BinaryOp::Ge
         )
     }
 }

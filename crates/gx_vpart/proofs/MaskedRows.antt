@@ -9,7 +9,7 @@ use Rattle.std.proofs.lemmas.List.{drop-drop}
 use Rattle.std.proofs.lemmas.Map.Keys.{IsDistinct-head, IsDistinct-tail}
 use Rattle.gx_rows.specs.declared.vid.Vid.{Vid}
 use Rattle.gx_index.specs.Ids.{HasDistinctIds, IsAscending, id_cmp, id_cmp-total, is_same_id}
-use Rattle.gx_chunks.proofs.Chunks.{drop-slot}
+use Rattle.gx_rows.specs.ListLaws.{drop-at}
 use Rattle.gx_vpart.specs.Operators.{row_at}
 use Rattle.gx_vpart.specs.Slots.{masked_rows}
 
@@ -25,7 +25,7 @@ next-within from s mask at = omega (arith, next-from from s (drop from mask) at,
 
 -- the mask has this slot
 pub position-here : (mask : List Bool) (from : ℕ) → slice_get mask from ≡ Some true → Some from ≡ position_from (λ b. b) from (drop from mask)
-position-here mask from at = sym (ap (position_from (λ b. b) from) (drop-slot mask from true at))
+position-here mask from at = sym (ap (position_from (λ b. b) from) (drop-at mask from true at))
 
 -- no slot is left
 pub masked_rows-none : {R : Type 0} (n : ℕ) (mask : List Bool) (ids : List Vid) (rows : List R) → position_from (λ b. b) n mask ≡ None → masked_rows mask ids rows ≡ []

@@ -7,7 +7,8 @@ use Rattle.std.proofs.lemmas.List.Sorted.{length_permutation}
 use Rattle.gx_rows.specs.declared.vid.Vid.{Vid}
 use Rattle.gx_index.specs.Ids.{HasDistinctIds, HasDistinctIds-IsPermutation, IsAscending, IsAscending-from_sorted}
 use Rattle.gx_vpart.specs.Operators.{picked, with_rows}
-use Rattle.gx_chunks.proofs.Chunks.{drop-past, drop-slot}
+use Rattle.std.proofs.lemmas.List.{drop_all}
+use Rattle.gx_rows.specs.ListLaws.{drop-at}
 use Rattle.gx_vpart.specs.Slots.{AreSortedColumns, HasSlots, IsSpreadUpTo, item_for, items_after, masked_rows, spread_items, thinned_mask}
 
 -- the items of the first slots are made
@@ -17,11 +18,11 @@ pub record SpreadSoFar {A : Type 0} (blank : A) (mask : List Bool) (items : List
 pub SpreadSoFar-more : {A : Type 0} {blank : A} {mask : List Bool} {items : List A} {slot : ℕ} {made rest : List A} (there : Bool)
     → SpreadSoFar blank mask items slot made rest → slice_get mask slot ≡ Some there
     → SpreadSoFar blank mask items (slot + 1) (made ++ item_for blank there rest ∷ []) (items_after there rest)
-SpreadSoFar-more {mask = mask} {slot = slot} there so_far at = record { whole = rw append_assoc (rw (drop-slot mask slot there at) at so_far.whole) }
+SpreadSoFar-more {mask = mask} {slot = slot} there so_far at = record { whole = rw append_assoc (rw (drop-at mask slot there at) at so_far.whole) }
 
 pub SpreadSoFar-done : {A : Type 0} {blank : A} {mask : List Bool} {items : List A} {slot : ℕ} {made rest : List A}
     → SpreadSoFar blank mask items slot made rest → length mask ≤ slot → made ≡ spread_items blank mask items
-SpreadSoFar-done {mask = mask} {slot = slot} so_far past = rw (drop-past mask slot past, append-nil) at so_far.whole
+SpreadSoFar-done {mask = mask} {slot = slot} so_far past = rw (drop_all slot mask past, append-nil) at so_far.whole
 
 -- ---- rows that are made one after another
 
@@ -31,17 +32,17 @@ IsSpreadUpTo-start blank mask = record { whole = λ more. refl }
 -- after a slot that the mask has not
 pub IsSpreadUpTo-blank : {A : Type 0} {blank : A} {mask : List Bool} {items : List A} {slot : ℕ} {made : List A}
     → IsSpreadUpTo blank mask items slot made → slice_get mask slot ≡ Some false → IsSpreadUpTo blank mask items (slot + 1) (made ++ blank ∷ [])
-IsSpreadUpTo-blank {mask = mask} {slot = slot} so_far at = record { whole = λ more. rw append_assoc (rw (drop-slot mask slot false at) at (so_far.whole more)) }
+IsSpreadUpTo-blank {mask = mask} {slot = slot} so_far at = record { whole = λ more. rw append_assoc (rw (drop-at mask slot false at) at (so_far.whole more)) }
 
 -- after a slot that the mask has
 pub IsSpreadUpTo-item : {A : Type 0} {blank : A} {mask : List Bool} {items : List A} {slot : ℕ} {made : List A} (x : A)
     → IsSpreadUpTo blank mask items slot made → slice_get mask slot ≡ Some true → IsSpreadUpTo blank mask (items ++ x ∷ []) (slot + 1) (made ++ x ∷ [])
-IsSpreadUpTo-item {mask = mask} {slot = slot} x so_far at = record { whole = λ more. rw (append_assoc, append_assoc) (rw (drop-slot mask slot true at) at (so_far.whole (x ∷ more))) }
+IsSpreadUpTo-item {mask = mask} {slot = slot} x so_far at = record { whole = λ more. rw (append_assoc, append_assoc) (rw (drop-at mask slot true at) at (so_far.whole (x ∷ more))) }
 
 -- no slot is left for one more item
 pub IsSpreadUpTo-past : {A : Type 0} {blank : A} {mask : List Bool} {items : List A} {slot : ℕ} {made : List A} (x : A)
     → IsSpreadUpTo blank mask items slot made → length mask ≤ slot → IsSpreadUpTo blank mask (items ++ x ∷ []) slot made
-IsSpreadUpTo-past {mask = mask} {slot = slot} x so_far past = record { whole = λ more. rw (drop-past mask slot past, append_assoc) (rw (drop-past mask slot past) at (so_far.whole (x ∷ more))) }
+IsSpreadUpTo-past {mask = mask} {slot = slot} x so_far past = record { whole = λ more. rw (drop_all slot mask past, append_assoc) (rw (drop_all slot mask past) at (so_far.whole (x ∷ more))) }
 
 -- the slots that are left are blank
 pub IsSpreadUpTo-rest : {A : Type 0} {blank : A} {mask : List Bool} {items : List A} {slot : ℕ} {made : List A}

@@ -1,6 +1,6 @@
 use Rattle.std.proofs.Common.{◌<◌, drop, length, sym, ◌∙◌, arith}
 use Rattle.std.proofs.lemmas.Option.{slice_get-get_or}
-use Rattle.gx_chunks.proofs.Chunks.{IsPieceAt-rest, slice_get-piece}
+use Rattle.gx_chunks.specs.PieceLaws.{IsPieceAt-rest, slice_get-piece}
 use Rattle.gx_vpart.proofs.Progress.{MakesProgress-first}
 use Rattle.gx_vpart.proofs.MaskedRows.{masked_rows-next, masked_rows-none, next-within}
 use Rattle.gx_vpart.proofs.vrows.VRowsIterator.next.Goals as goal
