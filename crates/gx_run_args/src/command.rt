@@ -1,7 +1,6 @@
 //! The command that the words of a command line are: a walk over the words, which collects what
 //! they say, and then the defaults.
 
-use gx_rows::Cut;
 ghost use Rattle.std.specs.Prelude.{
   ◌≡◌,
   ◌≤◌,
@@ -20,6 +19,7 @@ ghost use Rattle.gx_run_args.specs.RunCommands.{
 };
 
 use crate::options::{OptionName, Options};
+use gx_rows::Cut;
 
 /// The command `run`: which script, how many partitions, which cut, how many workers.
 #[derive(Clone, Copy)]

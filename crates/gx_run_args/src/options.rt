@@ -1,6 +1,5 @@
 //! The options of the command, the values that they take, and those that were given so far.
 
-use gx_rows::Cut;
 ghost use Rattle.std.specs.Prelude.{◌≡◌, ◌≤◌, IfSome, option_map};
 ghost use Rattle.std.specs.Char.{is_ascii_digit};
 ghost use Rattle.std.specs.List.{list_all};
@@ -12,6 +11,7 @@ ghost use Rattle.gx_run_args.specs.GivenOptions.{
   value_reading,
 };
 
+use gx_rows::Cut;
 
 /// An option, which takes the next word as its value.
 #[derive(Clone, Copy)]

@@ -2,12 +2,11 @@
 use Rattle.std.proofs.Common.{◌≡◌, ℕ, zero, suc, ◌+◌, ◌-◌, ◌<◌, ◌≤◌, Bool, true, false, List, [], ◌∷◌, ◌++◌, Some, length, drop, replicate, slice_get, set, refl, sym, ap, ◌∙◌, arith, append_assoc, length-append, ◌^◌, Result, Ok, Err, IfOk}
 use Rattle.std.specs.List.{zip}
 use Rattle.std.specs.Map.{keys_of, values_of}
-use Rattle.std.proofs.lemmas.List.{append-nil, length-map, length-replicate}
+use Rattle.std.proofs.lemmas.List.{append-nil, drop_all, length-map, length-replicate}
 use Rattle.std.proofs.lemmas.List.Sorted.{length_permutation}
 use Rattle.gx_rows.specs.declared.vid.Vid.{Vid}
 use Rattle.gx_index.specs.Ids.{HasDistinctIds, HasDistinctIds-IsPermutation, IsAscending, IsAscending-from_sorted}
 use Rattle.gx_vpart.specs.Operators.{picked, with_rows}
-use Rattle.std.proofs.lemmas.List.{drop_all}
 use Rattle.gx_rows.specs.ListLaws.{drop-at}
 use Rattle.gx_vpart.specs.Slots.{AreSortedColumns, HasSlots, IsSpreadUpTo, item_for, items_after, masked_rows, spread_items, thinned_mask}
 
