@@ -1,2 +1,4 @@
+pub mod Columns
 pub mod Edges
 pub mod Numbers
+pub mod Renumbering

@@ -83,7 +83,7 @@ fn maps_and_filters(rt: HostRuntime) -> Result<(), Fail> {
     let part = part_of(&rt, rt.alloc(), &edges)?;
     let ends = [(1, true, true), (2, true, true), (3, true, true)];
     assert_ends(&rt, &part, &ends)?;
-    assert_eq!(&rt; part.distinct_ends().map(|ids| ids.len()), Some(3));
+    assert_eq!(&rt; part.distinct_ends(), [Vid(1), Vid(2), Vid(3)].as_slice());
 
     // The rows of the parallel edges change their order.
     let mapped = part.map(|_, _, row| Ok(Row::one(Value::Int(10i64.wrapping_sub(number_in(row))))));
@@ -93,11 +93,19 @@ fn maps_and_filters(rt: HostRuntime) -> Result<(), Fail> {
         Err(_) => assert!(&rt; false),
     }
 
+    let one = part.filter(|_, _, row| Ok(number_in(row) > 6));
+    match one {
+        Ok(one) => {
+            assert_edges(&rt, &one, &[(3, 1, 7)]);
+            assert_ends(&rt, &one, &[(1, false, true), (3, true, false)])?;
+        }
+        Err(_) => assert!(&rt; false),
+    }
     let filtered = part.filter(|_, _, row| Ok(number_in(row) > 5));
     match filtered {
         Ok(filtered) => {
             assert_edges(&rt, &filtered, &[(1, 2, 6), (3, 1, 7)]);
-            assert!(&rt; filtered.distinct_ends().is_none());
+            assert_eq!(&rt; filtered.distinct_ends().len(), 3);
             let ends = [(1, true, true), (2, false, true), (3, true, false)];
             assert_ends(&rt, &filtered, &ends)
         }
