@@ -9,9 +9,7 @@ use Rattle.gx_rows.specs.declared.value.Value.{Value}
 use Rattle.gx_rows.specs.declared.vid.Vid.{Vid}
 use denote.Ref.{Bor}
 use Rattle.gx_index.specs.Ends.{IsSetOf}
-use Rattle.gx_index.specs.Ids.{IsAscending}
 use Rattle.gx_epart.specs.Edges.{IsEdgeOrderOf, edges_lent, sources_and_destinations}
-use Rattle.gx_epart.specs.declared.extent.Extent.TheVariants.{Exact}
 use Rattle.gx_epart.specs.declared.local_edge.LocalEdge.{LocalEdge}
 use Rattle.gx_epart.specs.Numbers.{HasEdges, IsInRange, edge_of_local, edges_of_locals, rows_of}
 use Rattle.gx_epart.specs.OrderLaws.{then-assoc}
@@ -57,11 +55,10 @@ edges-copied ids edges rows locals rows_are locals_are = rw rows_are locals_are
 
 -- edges in edge order, by the numbers of their ends
 pub HasEdges-copied : (ids : List Vid) (edges : List Edge) (rows : List (List Value)) (locals : List LocalEdge) → rows ≡ rows_of edges → edges_of_locals ids (rows_of edges) locals ≡ edges
-    → length edges < 2 ^ 32 → IsAscending ids → All (IsInRange ids (rows_of edges)) locals → IsSorted edge_cmp edges → IsSetOf (sources_and_destinations edges) ids → HasEdges Exact ids rows locals
-HasEdges-copied ids edges rows locals rows_are locals_are few ascending in_range sorted set = rw rows_are (record {
+    → length edges < 2 ^ 32 → All (IsInRange ids (rows_of edges)) locals → IsSorted edge_cmp edges → IsSetOf (sources_and_destinations edges) ids → HasEdges ids rows locals
+HasEdges-copied ids edges rows locals rows_are locals_are few in_range sorted set = rw rows_are (record {
   few = omega (arith, few, ap length locals_are, length-map locals (edge_of_local ids (rows_of edges)));
-  ascending = ascending;
   in_range = in_range;
   sorted = rw locals_are sorted;
-  exact = λ is. rw locals_are set;
+  exact = rw locals_are set;
 })

@@ -1,9 +1,12 @@
+pub mod Columns
 pub mod Derived
 pub mod Destinations
 pub mod DistinctEnds
 pub mod Ends
 pub mod Lent
 pub mod Locals
+pub mod Making
 pub mod Numbered
+pub mod Renumbering
 pub mod Reversing
 pub mod Traversing

@@ -8,8 +8,6 @@ use Rattle.std.proofs.lemmas.List.Sorted.{All-permutation, IsPermutation-map}
 use Rattle.gx_index.specs.Ends.{IsSetOf}
 use Rattle.gx_index.specs.Ids.{IsAscending}
 use Rattle.gx_epart.specs.declared.local_edge.LocalEdge.{LocalEdge}
-use Rattle.gx_epart.specs.declared.extent.Extent.{Extent}
-use Rattle.gx_epart.specs.declared.extent.Extent.TheVariants.{Exact}
 use Rattle.gx_epart.specs.Edges.{IsEdgeOrderOf}
 use Rattle.gx_epart.specs.Numbers.{HasEdges, HasIds, edge_of_numbers, edges_of_locals, ends_of_numbers, id_of_number, locals_of}
 use Rattle.gx_epart.proofs.DistinctEnds.{IsSetOf-permuted}
@@ -21,11 +19,10 @@ id_of_number-at ids n v at = get_or_from_slice_get ids n v (record { 0 = pos 0 }
 
 module _ (ids : List Vid) (es : List (ℕ × ℕ × List Value)) (rows : List (List Value)) (locals : List LocalEdge)
     (rows_are : rows ≡ map (λ e. e.2) es) (locals_are : locals ≡ locals_of es) where
-  pub HasEdges-packed : length es < 2 ^ 32 → IsAscending ids → All (HasIds ids) es → IsSorted edge_cmp (map (edge_of_numbers ids) es)
-      → (extent : Extent) → (extent ≡ Exact → IsSetOf (ends_of_numbers ids es) ids) → HasEdges extent ids rows locals
-  HasEdges-packed few ascending known sorted extent exact = rw (rows_are, locals_are) (record {
+  pub HasEdges-packed : length es < 2 ^ 32 → All (HasIds ids) es → IsSorted edge_cmp (map (edge_of_numbers ids) es)
+      → IsSetOf (ends_of_numbers ids es) ids → HasEdges ids rows locals
+  HasEdges-packed few known sorted exact = rw (rows_are, locals_are) (record {
     few = omega (arith, length-locals_of es, few);
-    ascending = ascending;
     in_range = IsInRange-of ids es known;
     sorted = rw edges_of_locals-of sorted;
     exact = rw edges_of_locals-of exact;

@@ -3,11 +3,10 @@ use Rattle.std.specs.Prelude.{◌≡◌, ℕ, pos, ◌+◌, ◌<◌, ◌^◌, tr
 use Rattle.gx_rows.specs.Order.{Edge, edge_cmp}
 use Rattle.gx_rows.specs.declared.value.Value.{Value}
 use Rattle.gx_rows.specs.declared.vid.Vid.{Vid}
-use Rattle.gx_index.specs.Ends.{IsSetOf}
+use Rattle.std.specs.Map.{keys_of}
+use Rattle.gx_index.specs.Ends.{End, IsEndsOf, IsSetOf}
 use Rattle.gx_index.specs.Ids.{IsAscending, has_id}
-use Rattle.gx_epart.specs.Edges.{sources_and_destinations}
-use Rattle.gx_epart.specs.declared.extent.Extent.{Extent}
-use Rattle.gx_epart.specs.declared.extent.Extent.TheVariants.{Exact}
+use Rattle.gx_epart.specs.Edges.{ends_of_edges, sources_and_destinations}
 use Rattle.gx_epart.specs.declared.local_edge.LocalEdge.{LocalEdge}
 
 -- the identifier of a number
@@ -73,13 +72,19 @@ numbers_with_rows (e ∷ edges) (row ∷ rows) = (e.src, e.dst, row) ∷ numbers
 abbrev pub reversed_local : LocalEdge → LocalEdge
 reversed_local e = record { src = e.dst; dst = e.src; row = e.row }
 
--- the numbers are those of edges in order, and the identifiers are the ends of these, if exact
-pub record HasEdges (extent : Extent) (ids : List Vid) (rows : List (List Value)) (locals : List LocalEdge) : Type 0 where
+-- the numbers are those of edges in order, and the identifiers are the ends of these
+pub record HasEdges (ids : List Vid) (rows : List (List Value)) (locals : List LocalEdge) : Type 0 where
   pub few : length locals < 2 ^ 32
-  pub ascending : IsAscending ids
   pub in_range : All (IsInRange ids rows) locals
   pub sorted : IsSorted edge_cmp (edges_of_locals ids rows locals)
-  pub exact : extent ≡ Exact → IsSetOf (sources_and_destinations (edges_of_locals ids rows locals)) ids
+  pub exact : IsSetOf (sources_and_destinations (edges_of_locals ids rows locals)) ids
+
+-- the same, and the ends have their sides
+pub record HasEnds (ends : List End) (rows : List (List Value)) (locals : List LocalEdge) : Type 0 where
+  pub few : length locals < 2 ^ 32
+  pub in_range : All (IsInRange (keys_of ends) rows) locals
+  pub sorted : IsSorted edge_cmp (edges_of_locals (keys_of ends) rows locals)
+  pub exact : IsEndsOf (ends_of_edges (edges_of_locals (keys_of ends) rows locals)) ends
 
 edges_of_locals-example : edges_of_locals (record { 0 = pos 7 } ∷ record { 0 = pos 9 } ∷ []) ([] ∷ []) (record { src = 1; dst = 0; row = 0 } ∷ []) ≡ (record { 0 = pos 9 }, record { 0 = pos 7 }, []) ∷ []
 edges_of_locals-example = refl

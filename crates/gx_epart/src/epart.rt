@@ -1,15 +1,14 @@
 //! Edge partitions.
 
-ghost use Rattle.std.specs.Prelude.{◌≡◌, ◌<◌, ◌^◌, IfOk, IfSome, IsPermutation, IsSorted, Some, length, slice_get, vec_len};
+ghost use Rattle.std.specs.Prelude.{◌≡◌, ◌<◌, ◌^◌, IfOk, IsPermutation, IsSorted, Some, length, slice_get, vec_len};
 ghost use Rattle.gx_rows.specs.Order.{edge_cmp};
 ghost use Rattle.gx_index.specs.Ends.{IsEndsOf, IsSetOf};
-ghost use Rattle.gx_epart.specs.declared.extent.Extent.TheVariants.{Exact};
 ghost use Rattle.gx_epart.specs.Numbers.{HasEdges, edges_of_locals};
 ghost use Rattle.gx_epart.specs.Edges.{IsEdgeOrderOf, edges_lent, ends_of_edges, reversed_edges, sources_and_destinations};
 
 use crate::copies::{lent, local_edges, row_copies};
-use crate::extent::Extent;
 use crate::local_edge::LocalEdge;
+use crate::local_edges::LocalEdges;
 use crate::numbering::index_of_ends;
 use crate::traverse::turned;
 use gx_index::{Ends, Index};
@@ -23,25 +22,24 @@ use std::rc::Rc;
 /// 2^32 items.
 #[derive(Drop)]
 pub struct EPart {
-    // In ascending order.
-    pub(crate) ends: Rc<Index>,
-    // `Exact` if each of `ends` is the end of an edge; `filter` makes it `Wider`.
-    pub(crate) extent: Extent,
+    // Those of these edges and no other; an end's number is its slot.
+    pub(crate) ends: Ends,
     // In edge order. Rows may be in another order, and some may be the row of no edge.
-    pub(crate) edges: Vec<LocalEdge>,
+    pub(crate) edges: LocalEdges,
     pub(crate) rows: Rc<Vec<Row>>,
 }
 
 impl Model for EPart {
     ghost use Rattle.std.specs.Prelude.{List};
+    ghost use Rattle.std.specs.Map.{keys_of};
     ghost use Rattle.gx_rows.specs.Order.{Edge};
-    ghost use Rattle.gx_epart.specs.Numbers.{HasEdges, edges_of_locals};
+    ghost use Rattle.gx_epart.specs.Numbers.{HasEnds, edges_of_locals};
 
     ghost Value = { List Edge };
 
-    ghost view = { λ p. edges_of_locals p.ends.value p.rows.value.items p.edges.items };
+    ghost view = { λ p. edges_of_locals (keys_of p.ends) p.rows.value.items p.edges };
 
-    ghost invariant = { λ p. HasEdges p.extent p.ends.value p.rows.value.items p.edges.items };
+    ghost invariant = { λ p. HasEnds p.ends p.rows.value.items p.edges };
 }
 
 impl EPart {
@@ -72,8 +70,8 @@ impl EPart {
         let ordered = edges.as_slice();
         let ends = index_of_ends(alloc, ordered)?;
         let locals = local_edges(alloc, &ends, ordered)?;
-        let rows = row_copies(alloc, ordered)?;
-        with_exact_ends(alloc, ends, locals, rows)
+        let rows = Rc::new(alloc, row_copies(alloc, ordered)?)?;
+        EPart::of_locals(alloc, Rc::new(alloc, ends)?, locals.as_slice(), rows)
     }
 
     /// The number of edges.
@@ -82,7 +80,7 @@ impl EPart {
         ensures fits_u32 { length self.now < 2 ^ 32 }
         ensures sorted { IsSorted edge_cmp self.now }
     {
-        self.edges.len() as u32
+        self.edges.len()
     }
 
     /// Source, destination and row of the edge at position `i`. It takes no memory.
@@ -90,42 +88,32 @@ impl EPart {
         requires { i < length self.now }
         ensures { slice_get self.now i ≡ Some (result.0, result.1, result.2.now) }
     {
-        let edge = self.edges[i as usize];
-        let src = self.ends.id_at(edge.src);
-        let dst = self.ends.id_at(edge.dst);
+        let edge = self.edges.get(i);
+        let ids = self.ends.ids();
+        let src = ids[edge.src as usize];
+        let dst = ids[edge.dst as usize];
         (src, dst, &self.rows[edge.row as usize])
     }
 
-    /// The ends of the edges, with the sides on which each is one.
+    /// The ends of the edges, with the sides on which each is one. They are shared.
     ///
     /// # Errors
     ///
-    /// `NoMemory` if memory for the ends runs out.
+    /// `NoMemory` if no further share of the ends can be counted.
     pub fn ends(&self) -> Result<Ends, NoMemory>
         ensures { IfOk result (IsEndsOf (ends_of_edges self.now)) }
     {
-        let alloc = *self.edges.allocator();
-        let mut ends = Vec::with_capacity(alloc, self.edges.len())?;
-        for i in 0..self.len() {
-            let (src, dst, _) = self.edge(i);
-            ends.push((src, dst))?;
-        }
-        Ends::of(alloc, ends.as_slice())
+        self.ends.share()
     }
 
     /// The distinct ends of the edges in ascending order, borrowed. It takes no memory.
-    ///
-    /// `None` if the partition was filtered, since some identifiers may then be the end of no edge.
-    pub fn distinct_ends(&self) -> Option<&[Vid]>
-        ensures { IfSome result (λ ids. IsSetOf (sources_and_destinations self.now) ids.now) }
+    pub fn distinct_ends(&self) -> &[Vid]
+        ensures { IsSetOf (sources_and_destinations self.now) result.now }
     {
-        match self.extent {
-            Extent::Exact => Some(self.ends.ids()),
-            Extent::Wider => None,
-        }
+        self.ends.ids()
     }
 
-    /// Each edge with source and destination exchanged. Ends and rows are shared.
+    /// Each edge with source and destination exchanged. The rows are shared.
     ///
     /// # Errors
     ///
@@ -134,33 +122,29 @@ impl EPart {
     pub fn reverse(&self) -> Result<EPart, NoMemory>
         ensures { IfOk result (IsEdgeOrderOf (reversed_edges self.now)) }
     {
-        let ends = self.ends.clone()?;
+        let alloc = self.edges.alloc();
+        let index = self.ends.index().clone()?;
         let rows = self.rows.clone()?;
-        let mut edges = turned(*self.edges.allocator(), self.edges.as_slice())?;
+        let locals = self.edges.to_vec()?;
+        let mut edges = turned(alloc, locals.as_slice())?;
         // A stable sort: parallel edges stay in the order of their rows.
         edges.sort_by_key(|e| (e.src, e.dst))?;
-        Ok(EPart {
-            ends,
-            extent: self.extent,
-            edges,
-            rows,
-        })
+        EPart::of_locals(alloc, index, edges.as_slice(), rows)
     }
-}
 
-fn with_exact_ends(
-    alloc: Global,
-    ends: Index,
-    edges: Vec<LocalEdge>,
-    rows: Vec<Row>,
-) -> Result<EPart, NoMemory>
-    requires { HasEdges Exact ends rows.items edges.items }
-    ensures { IfOk result (λ part. part ≡ edges_of_locals ends rows.items edges.items) }
-{
-    Ok(EPart {
-        ends: Rc::new(alloc, ends)?,
-        extent: Extent::Exact,
-        edges,
-        rows: Rc::new(alloc, rows)?,
-    })
+    // The partition of edges by numbers, which are in edge order. All identifiers are ends of them.
+    pub(crate) fn of_locals(
+        alloc: Global,
+        ids: Rc<Index>,
+        edges: &[LocalEdge],
+        rows: Rc<Vec<Row>>,
+    ) -> Result<EPart, NoMemory>
+        requires { HasEdges ids.value rows.value.items edges.now }
+        ensures { IfOk result (λ part. part
+            ≡ edges_of_locals ids.value rows.value.items edges.now) }
+    {
+        let edges = LocalEdges::of(alloc, edges)?;
+        let ends = Ends::of_slots(alloc, ids, edges.srcs(), edges.dsts())?;
+        Ok(EPart { ends, edges, rows })
+    }
 }

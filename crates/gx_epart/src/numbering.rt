@@ -5,11 +5,9 @@ ghost use Rattle.gx_rows.specs.Order.{edge_cmp};
 ghost use Rattle.gx_index.specs.Ends.{IsSetOf};
 ghost use Rattle.gx_index.specs.Ids.{IsAscending, has_id};
 ghost use Rattle.gx_epart.specs.Edges.{IsEdgeOrderOf, edges_lent, sources_and_destinations};
-ghost use Rattle.gx_epart.specs.declared.extent.Extent.TheVariants.{Exact};
 ghost use Rattle.gx_epart.specs.Numbers.{HasIds, HasKnownEnds, edge_of_numbers, ends_of_numbers, locals_of};
 
 use crate::EPart;
-use crate::extent::Extent;
 use crate::local_edge::LocalEdge;
 use gx_index::{Index, distinct_ids};
 use gx_rows::{NoMemory, Row, Vid};
@@ -77,43 +75,34 @@ fn number_of(ends: &Index, v: Vid) -> u32
 pub fn sort_numbered(
     alloc: Global,
     ends: Rc<Index>,
-    extent: Extent,
     mut numbered: Vec<(u32, u32, Row)>,
 ) -> Result<EPart, NoMemory>
     requires few { vec_len numbered < 2 ^ 32 }
     requires ascending { IsAscending ends.value }
     requires in_range { All (HasIds ends.value) numbered.items }
-    requires exact { extent ≡ Exact
-        → IsSetOf (ends_of_numbers ends.value numbered.items) ends.value }
+    requires exact { IsSetOf (ends_of_numbers ends.value numbered.items) ends.value }
     ensures { IfOk result (IsEdgeOrderOf (map (edge_of_numbers ends.value) numbered.items)) }
 {
     numbered.sort_unstable();
-    pack(alloc, ends, extent, numbered)
+    pack(alloc, ends, numbered)
 }
 
 /// The partition of edges that have numbers, which are in edge order.
 pub fn pack(
     alloc: Global,
     ends: Rc<Index>,
-    extent: Extent,
     numbered: Vec<(u32, u32, Row)>,
 ) -> Result<EPart, NoMemory>
     requires few { vec_len numbered < 2 ^ 32 }
     requires ascending { IsAscending ends.value }
     requires in_range { All (HasIds ends.value) numbered.items }
-    requires exact { extent ≡ Exact
-        → IsSetOf (ends_of_numbers ends.value numbered.items) ends.value }
+    requires exact { IsSetOf (ends_of_numbers ends.value numbered.items) ends.value }
     requires sorted { IsSorted edge_cmp (map (edge_of_numbers ends.value) numbered.items) }
     ensures { IfOk result (λ part. part ≡ map (edge_of_numbers ends.value) numbered.items) }
 {
     let (edges, rows) = split(alloc, numbered)?;
     let rows = Rc::new(alloc, rows)?;
-    Ok(EPart {
-        ends,
-        extent,
-        edges,
-        rows,
-    })
+    EPart::of_locals(alloc, ends, edges.as_slice(), rows)
 }
 
 // The rows in the same order, and each edge with the position of its row.

@@ -7,12 +7,13 @@ ghost use Rattle.gx_epart.specs.Edges.{IsEdgeOrderOf, edges_kept, edges_with_row
 ghost use Rattle.gx_epart.specs.Numbers.{numbers_with_rows, reversed_local};
 
 use crate::EPart;
-use crate::extent::Extent;
+use crate::kept_ends::number_anew;
 use crate::local_edge::LocalEdge;
 use crate::numbering::sort_numbered;
 use gx_rows::{EvalStop, NoMemory, PartStop, Row, RowKey, Vid};
 use gx_traverse::stop_at;
 use std::alloc::Global;
+use std::rc::Rc;
 
 impl EPart {
     /// The same edges, each with the row that `f` returns for its source, destination and row. Rows
@@ -63,7 +64,7 @@ impl EPart {
         ensures { IsTraversal (ReturnsAtEdge (F.post f)) key_of_edge self.now
             (λ ys values. values.items ≡ ys) result }
     {
-        let mut values = Vec::new(*self.edges.allocator());
+        let mut values = Vec::new(self.edges.alloc());
         for i in 0..self.len() {
             let (src, dst, row) = self.edge(i);
             match f(src, dst, row) {
@@ -79,23 +80,24 @@ impl EPart {
         requires { length rows.items ≡ length self.now }
         ensures { IfOk result (IsEdgeOrderOf (edges_with_rows self.now rows.items)) }
     {
-        let alloc = *self.edges.allocator();
-        let numbered = numbers_with(alloc, self.edges.as_slice(), rows)?;
-        sort_numbered(alloc, self.ends.clone()?, self.extent, numbered)
+        let alloc = self.edges.alloc();
+        let locals = self.edges.to_vec()?;
+        let numbered = numbers_with(alloc, locals.as_slice(), rows)?;
+        sort_numbered(alloc, self.ends.index().clone()?, numbered)
     }
 
+    // The ends are numbered anew, since some may be the end of no edge that is left.
     fn kept(&self, keeps: &[bool]) -> Result<EPart, NoMemory>
         ensures { IfOk result (λ new. new ≡ edges_kept self.now keeps.now) }
     {
-        let edges = keep(*self.edges.allocator(), self.edges.as_slice(), keeps)?;
-        let ends = self.ends.clone()?;
+        let alloc = self.edges.alloc();
         let rows = self.rows.clone()?;
-        Ok(EPart {
-            ends,
-            extent: Extent::Wider,
-            edges,
-            rows,
-        })
+        let locals = self.edges.to_vec()?;
+        let edges = keep(alloc, locals.as_slice(), keeps)?;
+        // The call takes no time; its clause says that the ends are fewer than 2^32.
+        let _len = self.ends.len();
+        let (ids, edges) = number_anew(alloc, self.ends.ids(), edges.as_slice())?;
+        EPart::of_locals(alloc, Rc::new(alloc, ids)?, edges.as_slice(), rows)
     }
 }
 

@@ -94,8 +94,7 @@ fn missing_ends(
     distinct_ids(alloc, ids.as_slice())
 }
 
-// The missing ends of one edge partition, in any order and with repetitions, after the other
-// identifiers. A partition that lends its distinct ends has fewer of them than ends of edges.
+// The missing ends of one edge partition, after the other identifiers.
 fn append_missing_ends(
     ids: &mut Vec<Vid>,
     rows: &VPart,
@@ -107,10 +106,7 @@ fn append_missing_ends(
     ensures { OnOk result (HasSameIds ids.new.items
         (ids.old.items ++ filter (is_missing rows.now part parts) (both_ends edges.now))) }
 {
-    match edges.distinct_ends() {
-        Some(ends) => append_missing(ids, rows, ends, part, parts),
-        None => append_missing_of_edges(ids, rows, edges, part, parts),
-    }
+    append_missing(ids, rows, edges.distinct_ends(), part, parts)
 }
 
 // Those of the identifiers that are missing, after the other ones.
@@ -129,26 +125,6 @@ fn append_missing(
     while let [end, after @ ..] = rest {
         append_if_missing(ids, rows, *end, part, parts)?;
         rest = after;
-    }
-    Ok(())
-}
-
-// The missing ones of the sources and destinations, edge by edge, after the other identifiers.
-fn append_missing_of_edges(
-    ids: &mut Vec<Vid>,
-    rows: &VPart,
-    edges: &EPart,
-    part: u32,
-    parts: u32,
-) -> Result<(), NoMemory>
-    requires { part < parts }
-    ensures { OnOk result (ids.new.items
-        ≡ ids.old.items ++ filter (is_missing rows.now part parts) (both_ends edges.now)) }
-{
-    for i in 0..edges.len() {
-        let (src, dst, _) = edges.edge(i);
-        append_if_missing(ids, rows, src, part, parts)?;
-        append_if_missing(ids, rows, dst, part, parts)?;
     }
     Ok(())
 }

@@ -59,7 +59,7 @@ fn lists_the_ends(rt: HostRuntime) -> Result<(), Fail> {
     let part = edges_of(&rt, rt.alloc(), &FOUR_EDGES)?;
     let ends = [(1, true, true), (2, true, true), (3, true, true)];
     assert_ends(&rt, &part, &ends)?;
-    assert_eq!(&rt; part.distinct_ends().map(|ids| ids.len()), Some(3));
+    assert_eq!(&rt; part.distinct_ends(), [Vid(1), Vid(2), Vid(3)].as_slice());
     Ok(())
 }
 
@@ -80,9 +80,25 @@ fn filters_edges(rt: HostRuntime) -> Result<(), Fail> {
     match part.filter(|_, _, row| Ok(number_of(row) > 5)) {
         Ok(filtered) => {
             assert_edges(&rt, &filtered, &[(1, 2, 6), (3, 1, 7)]);
-            assert!(&rt; filtered.distinct_ends().is_none());
+            assert_eq!(&rt; filtered.distinct_ends().len(), 3);
             let ends = [(1, true, true), (2, false, true), (3, true, false)];
             assert_ends(&rt, &filtered, &ends)
+        }
+        Err(_) => {
+            assert!(&rt; false);
+            Ok(())
+        }
+    }
+}
+
+// The ends of the edge that is left are numbered anew.
+#[test]
+fn filters_to_one_edge(rt: HostRuntime) -> Result<(), Fail> {
+    let part = edges_of(&rt, rt.alloc(), &FOUR_EDGES)?;
+    match part.filter(|_, _, row| Ok(number_of(row) > 6)) {
+        Ok(one) => {
+            assert_edges(&rt, &one, &[(3, 1, 7)]);
+            assert_ends(&rt, &one, &[(1, false, true), (3, true, false)])
         }
         Err(_) => {
             assert!(&rt; false);

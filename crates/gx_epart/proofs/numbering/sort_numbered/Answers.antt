@@ -16,9 +16,9 @@ pack-requires-clause-sorted c =
     c.sort_unstable.ensures.permutation c.sort_unstable.ensures.sorted).sorted
 
 pub pack-requires-clause-exact : goal.pack-requires-clause-exact
-pack-requires-clause-exact c is =
+pack-requires-clause-exact c =
     exact-ordered c.args.ends.value c.args.numbered.items c.sort_unstable.new.self.items c.requires.ascending c.requires.in_range
-    c.sort_unstable.ensures.permutation c.sort_unstable.ensures.sorted (c.requires.exact is)
+    c.sort_unstable.ensures.permutation c.sort_unstable.ensures.sorted c.requires.exact
 
 pub returns : goal.returns
 returns c =
