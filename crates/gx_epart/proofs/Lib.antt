@@ -2,6 +2,7 @@ pub mod Columns
 pub mod Derived
 pub mod Destinations
 pub mod DistinctEnds
+pub mod EndIds
 pub mod Ends
 pub mod Lent
 pub mod Locals

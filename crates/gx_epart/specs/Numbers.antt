@@ -49,6 +49,10 @@ abbrev pub destinations_from : ℕ → List Edge → List (Vid × ℕ)
 destinations_from n [] = []
 destinations_from n (e ∷ edges) = (e.1, n) ∷ destinations_from (n + 1) edges
 
+-- the identifiers are the ends of the edges, in any order and with repetitions
+abbrev pub HasEndsOf : List Edge → List Vid → Type 0
+HasEndsOf edges ids = (v : Vid) → has_id v ids ≡ has_id v (sources_and_destinations edges)
+
 -- the numbers are those of the destinations
 pub record HasDestinations (ids : List Vid) (edges : List Edge) (numbers : List ℕ) : Type 0 where
   pub count : length numbers ≡ length edges

@@ -6,7 +6,7 @@ ghost use Rattle.gx_index.specs.Ends.{IsEndsOf, IsSetOf};
 ghost use Rattle.gx_epart.specs.Numbers.{HasEdges, edges_of_locals};
 ghost use Rattle.gx_epart.specs.Edges.{IsEdgeOrderOf, edges_lent, ends_of_edges, reversed_edges, sources_and_destinations};
 
-use crate::copies::{lent, local_edges, row_copies};
+use crate::copies::{lent, local_edges, row_copies, sorted_destinations};
 use crate::local_edge::LocalEdge;
 use crate::local_edges::LocalEdges;
 use crate::numbering::index_of_ends;
@@ -68,8 +68,9 @@ impl EPart {
         // References are sorted, and each row is copied to where it is kept.
         edges.sort_unstable();
         let ordered = edges.as_slice();
-        let ends = index_of_ends(alloc, ordered)?;
-        let locals = local_edges(alloc, &ends, ordered)?;
+        let destinations = sorted_destinations(alloc, ordered)?;
+        let ends = index_of_ends(alloc, ordered, destinations.as_slice())?;
+        let locals = local_edges(alloc, &ends, ordered, destinations)?;
         let rows = Rc::new(alloc, row_copies(alloc, ordered)?)?;
         EPart::of_locals(alloc, Rc::new(alloc, ends)?, locals.as_slice(), rows)
     }

@@ -1,11 +1,11 @@
 //! From edges to numbers, and to the order of edges.
 
-ghost use Rattle.std.specs.Prelude.{◌≡◌, ◌<◌, ◌^◌, All, IfOk, IsSorted, Some, length, map, slice_get, true, vec_len};
+ghost use Rattle.std.specs.Prelude.{◌≡◌, ◌<◌, ◌^◌, All, IfOk, IsPermutation, IsSorted, Some, length, map, slice_get, true, vec_len};
 ghost use Rattle.gx_rows.specs.Order.{edge_cmp};
 ghost use Rattle.gx_index.specs.Ends.{IsSetOf};
 ghost use Rattle.gx_index.specs.Ids.{IsAscending, has_id};
 ghost use Rattle.gx_epart.specs.Edges.{IsEdgeOrderOf, edges_lent, sources_and_destinations};
-ghost use Rattle.gx_epart.specs.Numbers.{HasIds, HasKnownEnds, edge_of_numbers, ends_of_numbers, locals_of};
+ghost use Rattle.gx_epart.specs.Numbers.{HasEndsOf, HasIds, HasKnownEnds, destinations_from, edge_of_numbers, ends_of_numbers, locals_of};
 
 use crate::EPart;
 use crate::local_edge::LocalEdge;
@@ -14,13 +14,18 @@ use gx_rows::{NoMemory, Row, Vid};
 use std::alloc::Global;
 use std::rc::Rc;
 
-/// The distinct ends of edges in ascending order.
-pub fn index_of_ends(alloc: Global, edges: &[(Vid, Vid, &Row)]) -> Result<Index, NoMemory>
-    ensures ascending { IfOk result (λ ends. IsAscending ends) }
+/// The distinct ends of edges in ascending order. `destinations` are those of the edges. If sources
+/// and destinations ascend, each is looked at once and nothing is sorted.
+pub fn index_of_ends(
+    alloc: Global,
+    edges: &[(Vid, Vid, &Row)],
+    destinations: &[(Vid, u32)],
+) -> Result<Index, NoMemory>
+    requires { IsPermutation (destinations_from 0 (edges_lent edges.now)) destinations.now }
     ensures exact { IfOk result (IsSetOf (sources_and_destinations (edges_lent edges.now))) }
     ensures all_ends { IfOk result (λ ends. All (HasKnownEnds ends) (edges_lent edges.now)) }
 {
-    let ids = ids_of_ends(alloc, edges)?;
+    let ids = ids_of_ends(alloc, edges, destinations)?;
     let ids = distinct_ids(alloc, ids.as_slice())?;
     if ids.len() > u32::MAX as usize {
         return Err(NoMemory);
@@ -28,17 +33,39 @@ pub fn index_of_ends(alloc: Global, edges: &[(Vid, Vid, &Row)]) -> Result<Index,
     Index::from_vec(alloc, ids)
 }
 
-fn ids_of_ends(alloc: Global, edges: &[(Vid, Vid, &Row)]) -> Result<Vec<Vid>, NoMemory>
-    ensures { IfOk result (λ ids. ids.items ≡ sources_and_destinations (edges_lent edges.now)) }
+// The sources, and after them the destinations, each once in a run of equal ones.
+fn ids_of_ends(
+    alloc: Global,
+    edges: &[(Vid, Vid, &Row)],
+    destinations: &[(Vid, u32)],
+) -> Result<Vec<Vid>, NoMemory>
+    requires { IsPermutation (destinations_from 0 (edges_lent edges.now)) destinations.now }
+    ensures { IfOk result (λ ids. HasEndsOf (edges_lent edges.now) ids.items) }
 {
-    let mut ids = Vec::new(alloc);
+    let mut ids = sources_of(alloc, edges)?;
+    ids.dedup();
+    let mut others = ids_of(alloc, destinations)?;
+    others.dedup();
+    ids.extend_from_slice(others.as_slice())?;
+    Ok(ids)
+}
+
+fn sources_of(alloc: Global, edges: &[(Vid, Vid, &Row)]) -> Result<Vec<Vid>, NoMemory>
+    ensures { IfOk result (λ ids. ids.items ≡ map (λ e. e.0) (edges_lent edges.now)) }
+{
+    let mut ids = Vec::with_capacity(alloc, edges.len())?;
     let mut rest = edges;
     while let [edge, after @ ..] = rest {
         ids.push(edge.0)?;
-        ids.push(edge.1)?;
         rest = after;
     }
     Ok(ids)
+}
+
+fn ids_of(alloc: Global, destinations: &[(Vid, u32)]) -> Result<Vec<Vid>, NoMemory>
+    ensures { IfOk result (λ ids. ids.items ≡ map (λ d. d.0) destinations.now) }
+{
+    Ok(destinations.iter().map(|d| d.0).collect(alloc)?)
 }
 
 /// The number of `v`. The identifiers from the number `from` on are looked at one by one, so that

@@ -14,8 +14,8 @@ use Rattle.gx_epart.proofs.copies.destination_numbers.Goals as goal
 pub loop-id-init : goal.loop-id-init
 loop-id-init c =
     let edges : List Edge = edges_lent c.args.edges.now in
-    let ds = c.sort_unstable.new.self.items in
-    let same : IsPermutation (destinations_from 0 edges) ds = rw c.in_ok-destinations.ensures at c.sort_unstable.ensures.permutation in
+    let ds = c.args.destinations.items in
+    let same : IsPermutation (destinations_from 0 edges) ds = c.requires.all in
     let count : length c.in_ok-numbers.numbers.items ≡ length edges = grind (arith, common_steps, length-map {B = Edge} c.args.edges.now (λ e. (e.0, e.1, e.2.now)), c.in_ok-numbers.ensures.len) in
     rw c.into_iter-id-iterator.ensures.into_iter_gives.0
     (count, IsDestination-ordered c.args.ends.now edges ds same, AreNumbered-start c.args.ends.now edges ds same c.in_ok-numbers.numbers.items)
