@@ -14,13 +14,14 @@ use Rattle.gx_syntax_tree.specs.declared.parts.ColumnExpr.{ColumnExpr}
 use Rattle.gx_syntax_tree.specs.declared.parts.ColumnMerge.{ColumnMerge}
 use Rattle.gx_syntax_tree.specs.declared.parts.SendClause.{SendClause}
 use Rattle.gx_syntax_tree.specs.declared.words.ActiveWord.{ActiveWord}
+use Rattle.gx_syntax_tree.specs.declared.words.CutWord.{CutWord}
 use Rattle.gx_types_exprs.specs.ExprScopes.{vertex_scope, triplet_scope, edge_scope, join_scope, outer_join_scope, program_scope}
 use Rattle.gx_types_stmts.specs.Constants.{constant_row, named_columns, named_values}
 use Rattle.gx_types_stmts.specs.Makes.{OperandTypes, table_stmt, edges_stmt, graph_stmt}
 use Rattle.gx_types_stmts.specs.Merging.{grouped_columns, merge_kinds, message_columns}
 use Rattle.gx_types_stmts.specs.SameColumns.{checked_same_columns, checked_same_kinds}
 use Rattle.gx_types_stmts.specs.Sending.{typed_sends}
-use Rattle.gx_types_stmts.specs.StmtWords.{direction_of_written}
+use Rattle.gx_types_stmts.specs.StmtWords.{cut_of_written, direction_of_written}
 use Rattle.gx_types_stmts.specs.ValueTyping.{column_values, typed_condition, typed_sets, typed_test}
 use Rattle.gx_types_stmts.specs.declared.typed_body.TypedBody.{TypedBody}
 use Rattle.gx_types_stmts.specs.declared.stmt_stop.StmtStop.{StmtStop}
@@ -69,6 +70,16 @@ tested_graph g vs es = typed_test (vertex_scope g.vertices) 0 vs >>= λ v.
 abbrev pub grouped_graph : OperandTypes → List ColumnMerge → Result TypedBody StmtStop
 grouped_graph g merges = grouped_columns merges g.edges >>= λ edges.
     Ok (graph_stmt (typed.GroupEdges g.number (merge_kinds merges)) g.vertices edges)
+
+-- `reverse`, `mask` and `partition` keep the columns
+abbrev pub reversed_graph : OperandTypes → TypedBody
+reversed_graph g = same_graph (typed.Reverse g.number) g
+
+abbrev pub masked_graph : OperandTypes → OperandTypes → TypedBody
+masked_graph g by = same_graph (typed.Mask g.number by.number) g
+
+abbrev pub partitioned_graph : OperandTypes → CutWord → TypedBody
+partitioned_graph g cut = same_graph (typed.Partition g.number (cut_of_written cut)) g
 
 -- ---- maps
 

@@ -12,9 +12,14 @@ use Rattle.gx_types_stmts.specs.KnownNames.{Context, context_after, free_name, u
 use Rattle.gx_types_stmts.specs.Makes.{OperandTypes, action_stmt, table_made, example_table}
 use Rattle.gx_types_stmts.specs.NamedParts.{named_parts}
 use Rattle.gx_types_stmts.specs.ShortForms.{degree_table, neighbour_table}
-use Rattle.gx_types_stmts.specs.StmtRules.{loaded_vertices, loaded_edges, loaded_edge_list, same_graph, built_graph, graph_of_edges, tested_graph, grouped_graph, mapped_vertices_stmt, mapped_edges_stmt, mapped_triplets_stmt, joined_vertices, outer_joined_graph, aggregated_table, iterated_graph, filtered_table, mapped_table, subtracted_table, compared_table, joined_table, left_joined_table}
+use Rattle.gx_types_stmts.specs.StmtRules.{loaded_vertices, loaded_edges, loaded_edge_list}
+use Rattle.gx_types_stmts.specs.StmtRules.{built_graph, graph_of_edges, reversed_graph, masked_graph}
+use Rattle.gx_types_stmts.specs.StmtRules.{tested_graph, grouped_graph, partitioned_graph}
+use Rattle.gx_types_stmts.specs.StmtRules.{mapped_vertices_stmt, mapped_edges_stmt, mapped_triplets_stmt}
+use Rattle.gx_types_stmts.specs.StmtRules.{joined_vertices, outer_joined_graph, aggregated_table, iterated_graph}
+use Rattle.gx_types_stmts.specs.StmtRules.{filtered_table, mapped_table, subtracted_table, compared_table}
+use Rattle.gx_types_stmts.specs.StmtRules.{joined_table, left_joined_table}
 use Rattle.gx_types_stmts.specs.StmtStops.{stmt_refusal}
-use Rattle.gx_types_stmts.specs.StmtWords.{cut_of_written}
 use Rattle.gx_types_stmts.specs.declared.checked_stmt.CheckedStmt.{CheckedStmt}
 use Rattle.gx_types_exprs.specs.declared.type_kind.TypeKind.TheVariants as type_kind
 use Rattle.gx_types_stmts.specs.declared.typed_body.TypedBody.{TypedBody}
@@ -29,11 +34,11 @@ typed_body a b (stmts.Edges name file cs) = Ok (loaded_edges file cs)
 typed_body a b (stmts.EdgeList name file o) = Ok (loaded_edge_list file o)
 typed_body a b (stmts.Graph name vs es default) = built_graph a b default
 typed_body a b (stmts.FromEdges name es row) = Ok (graph_of_edges a row)
-typed_body a b (stmts.Reverse name g) = Ok (same_graph (typed.Reverse a.number) a)
-typed_body a b (stmts.Mask name g by) = Ok (same_graph (typed.Mask a.number b.number) a)
+typed_body a b (stmts.Reverse name g) = Ok (reversed_graph a)
+typed_body a b (stmts.Mask name g by) = Ok (masked_graph a b)
 typed_body a b (stmts.Subgraph name g vs es) = tested_graph a vs es
 typed_body a b (stmts.GroupEdges name g ms) = grouped_graph a ms
-typed_body a b (stmts.Partition name g cut) = Ok (same_graph (typed.Partition a.number (cut_of_written cut)) a)
+typed_body a b (stmts.Partition name g cut) = Ok (partitioned_graph a cut)
 typed_body a b (stmts.MapVertices name g ss) = mapped_vertices_stmt a ss
 typed_body a b (stmts.MapEdges name g ss) = mapped_edges_stmt a ss
 typed_body a b (stmts.MapTriplets name g ss) = mapped_triplets_stmt a ss

@@ -9,7 +9,10 @@ ghost use Rattle.gx_types_stmts.specs.StmtBounds.{IsTypable, HasCheckedLists};
 ghost use Rattle.gx_types_stmts.specs.StmtTyping.{typed_body};
 ghost use Rattle.gx_types_stmts.specs.StmtStops.{StmtReturns};
 
-use crate::graphs::{same_graph, type_from_edges, type_graph, type_group_edges, type_subgraph};
+use crate::graphs::{
+    type_from_edges, type_graph, type_group_edges, type_mask, type_partition, type_reverse,
+    type_subgraph,
+};
 use crate::joins::{type_join_vertices, type_outer_join};
 use crate::limits::rounds_of;
 use crate::loads::{type_edge_list, type_edges, type_vertices};
@@ -21,7 +24,6 @@ use crate::tables::{
     type_diff, type_filter, type_inner_join, type_left_join, type_map_values, type_minus,
 };
 use crate::typed_body::TypedBody;
-use crate::words::cut_of_written;
 use crate::{StmtStop, TypedStmt};
 use gx_syntax_tree::{NeighbourWord, Stmt};
 use std::alloc::Global;
@@ -47,27 +49,15 @@ pub(crate) fn type_body(
         Stmt::EdgeList { file, oriented, .. } => Ok(type_edge_list(alloc, file, *oriented)?),
         Stmt::Graph { default, .. } => type_graph(alloc, a, b, default),
         Stmt::FromEdges { row, .. } => Ok(type_from_edges(alloc, a, row)?),
-        Stmt::Reverse { .. } => Ok(same_graph(TypedStmt::Reverse { graph: a.number }, a)?),
-        Stmt::Mask { .. } => {
-            let stmt = TypedStmt::Mask {
-                graph: a.number,
-                by: b.number,
-            };
-            Ok(same_graph(stmt, a)?)
-        }
+        Stmt::Reverse { .. } => Ok(type_reverse(a)?),
+        Stmt::Mask { .. } => Ok(type_mask(a, b)?),
         Stmt::Subgraph {
             vertices,
             edges,
             ..
         } => type_subgraph(alloc, a, vertices, edges),
         Stmt::GroupEdges { merges, .. } => type_group_edges(alloc, a, merges),
-        Stmt::Partition { cut, .. } => {
-            let stmt = TypedStmt::Partition {
-                graph: a.number,
-                cut: cut_of_written(*cut),
-            };
-            Ok(same_graph(stmt, a)?)
-        }
+        Stmt::Partition { cut, .. } => Ok(type_partition(a, *cut)?),
         Stmt::MapVertices { sets, .. } => type_map_vertices(alloc, a, sets),
         Stmt::MapEdges { sets, .. } => type_map_edges(alloc, a, sets),
         Stmt::MapTriplets { sets, .. } => type_map_triplets(alloc, a, sets),

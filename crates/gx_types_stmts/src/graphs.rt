@@ -13,24 +13,25 @@ use crate::merging::{grouped_type, merge_kinds};
 use crate::operand::Operand;
 use crate::tests_of_rows::type_test;
 use crate::typed_body::TypedBody;
-use crate::{StmtStop, TypedStmt};
+use crate::words::cut_of_written;
+use crate::{SharedType, StmtStop, TypedStmt};
 use gx_rows::NoMemory;
-use gx_syntax_tree::{ColumnConst, ColumnMerge, Const, Expr};
+use gx_syntax_tree::{ColumnConst, ColumnMerge, Const, CutWord, Expr};
 use gx_types_exprs::ExprScope;
 use sqlite_items::Items;
 use std::alloc::Global;
 
-/// A statement that makes a graph with the row types of another.
+/// The row types of the vertices and of the edges of a graph, for a statement that keeps them.
 ///
 /// # Errors
 ///
 /// `NoMemory` if no further copy of a row type can be counted.
-pub(crate) fn same_graph(stmt: TypedStmt, graph: &Operand<'_>) -> Result<TypedBody, NoMemory>
-    ensures { IfOk result (λ s. s ≡ rules.same_graph stmt (operand_types graph.now)) }
+pub(crate) fn types_of(graph: &Operand<'_>) -> Result<(SharedType, SharedType), NoMemory>
+    ensures { IfOk result (λ types. types ≡ (graph.now.vertices.now, graph.now.edges.now)) }
 {
     let vertices = graph.vertices.copy()?;
     let edges = graph.edges.copy()?;
-    Ok(TypedBody::graph(stmt, vertices, edges))
+    Ok((vertices, edges))
 }
 
 /// `graph`
@@ -48,14 +49,14 @@ pub(crate) fn type_graph(
         (rules.built_graph (operand_types vertices.now) (operand_types edges.now) default.now) }
 {
     let default = type_row(alloc, vertices.vertices.get(), default)?;
+    let vertex_type = vertices.vertices.copy()?;
+    let edge_type = edges.edges.copy()?;
     let stmt = TypedStmt::Graph {
         vertices: vertices.number,
         edges: edges.number,
         default,
     };
-    let vertices = vertices.vertices.copy()?;
-    let edges = edges.edges.copy()?;
-    Ok(TypedBody::graph(stmt, vertices, edges))
+    Ok(TypedBody::graph(stmt, vertex_type, edge_type))
 }
 
 /// `fromedges`
@@ -71,12 +72,46 @@ pub(crate) fn type_from_edges(
     requires { IsColumnList (map (λ c. c.name) row.now) }
     ensures { IfOk result (λ s. s ≡ rules.graph_of_edges (operand_types edges.now) row.now) }
 {
-    let vertices = named_type(alloc, row)?;
+    let vertex_type = named_type(alloc, row)?;
+    let edge_type = edges.edges.copy()?;
+    let row = named_row(alloc, row)?;
     let stmt = TypedStmt::FromEdges {
         edges: edges.number,
-        row: named_row(alloc, row)?,
+        row,
     };
-    Ok(TypedBody::graph(stmt, vertices, edges.edges.copy()?))
+    Ok(TypedBody::graph(stmt, vertex_type, edge_type))
+}
+
+/// `reverse`
+///
+/// # Errors
+///
+/// `NoMemory` if no further copy of a row type can be counted.
+pub(crate) fn type_reverse(graph: &Operand<'_>) -> Result<TypedBody, NoMemory>
+    ensures { IfOk result (λ s. s ≡ rules.reversed_graph (operand_types graph.now)) }
+{
+    let (vertices, edges) = types_of(graph)?;
+    let stmt = TypedStmt::Reverse {
+        graph: graph.number,
+    };
+    Ok(TypedBody::graph(stmt, vertices, edges))
+}
+
+/// `mask`
+///
+/// # Errors
+///
+/// `NoMemory` if no further copy of a row type can be counted.
+pub(crate) fn type_mask(graph: &Operand<'_>, by: &Operand<'_>) -> Result<TypedBody, NoMemory>
+    ensures { IfOk result
+        (λ s. s ≡ rules.masked_graph (operand_types graph.now) (operand_types by.now)) }
+{
+    let (vertices, edges) = types_of(graph)?;
+    let stmt = TypedStmt::Mask {
+        graph: graph.number,
+        by: by.number,
+    };
+    Ok(TypedBody::graph(stmt, vertices, edges))
 }
 
 /// `subgraph`
@@ -95,6 +130,7 @@ pub(crate) fn type_subgraph(
     ensures { StmtReturns result
         (rules.tested_graph (operand_types graph.now) vertices.now edges.now) }
 {
+    let (vertex_type, edge_type) = types_of(graph)?;
     let rows = graph.vertices.get();
     let vertices = type_test(alloc, vertices, &ExprScope::Vertex(rows), 0)?;
     let scope = ExprScope::Triplet(rows, graph.edges.get());
@@ -104,7 +140,7 @@ pub(crate) fn type_subgraph(
         vertices: vertices.test,
         edges: edges.test,
     };
-    Ok(same_graph(stmt, graph)?)
+    Ok(TypedBody::graph(stmt, vertex_type, edge_type))
 }
 
 /// `groupedges`
@@ -121,9 +157,27 @@ pub(crate) fn type_group_edges(
     ensures { StmtReturns result (rules.grouped_graph (operand_types graph.now) merges.now) }
 {
     let edges = grouped_type(alloc, merges, graph.edges.get())?;
+    let vertices = graph.vertices.copy()?;
+    let merges = merge_kinds(alloc, merges)?;
     let stmt = TypedStmt::GroupEdges {
         graph: graph.number,
-        merges: merge_kinds(alloc, merges)?,
+        merges,
     };
-    Ok(TypedBody::graph(stmt, graph.vertices.copy()?, edges))
+    Ok(TypedBody::graph(stmt, vertices, edges))
+}
+
+/// `partition`
+///
+/// # Errors
+///
+/// `NoMemory` if no further copy of a row type can be counted.
+pub(crate) fn type_partition(graph: &Operand<'_>, cut: CutWord) -> Result<TypedBody, NoMemory>
+    ensures { IfOk result (λ s. s ≡ rules.partitioned_graph (operand_types graph.now) cut) }
+{
+    let (vertices, edges) = types_of(graph)?;
+    let stmt = TypedStmt::Partition {
+        graph: graph.number,
+        cut: cut_of_written(cut),
+    };
+    Ok(TypedBody::graph(stmt, vertices, edges))
 }

@@ -8,7 +8,7 @@ ghost use Rattle.gx_types_stmts.specs.StmtStops.{StmtReturns};
 
 use crate::columns::check_same_columns;
 use crate::constants::type_row;
-use crate::graphs::same_graph;
+use crate::graphs::types_of;
 use crate::operand::Operand;
 use crate::sets::type_sets;
 use crate::typed_body::TypedBody;
@@ -33,6 +33,7 @@ pub(crate) fn type_join_vertices(
     ensures { StmtReturns result
         (rules.joined_vertices (operand_types graph.now) (operand_types table.now) sets.now) }
 {
+    let (vertices, edges) = types_of(graph)?;
     let scope = ExprScope::Join(graph.vertices.get(), table.vertices.get());
     let sets = type_sets(alloc, sets, &scope)?;
     check_same_columns(sets.columns.get(), graph.vertices.get())?;
@@ -41,7 +42,7 @@ pub(crate) fn type_join_vertices(
         table: table.number,
         sets: sets.exprs,
     };
-    Ok(same_graph(stmt, graph)?)
+    Ok(TypedBody::graph(stmt, vertices, edges))
 }
 
 /// `outerjoin`
@@ -63,11 +64,12 @@ pub(crate) fn type_outer_join(
     let default = type_row(alloc, table.vertices.get(), default)?;
     let scope = ExprScope::OuterJoin(graph.vertices.get(), table.vertices.get());
     let sets = type_sets(alloc, sets, &scope)?;
+    let edges = graph.edges.copy()?;
     let stmt = TypedStmt::OuterJoin {
         graph: graph.number,
         table: table.number,
         default,
         sets: sets.exprs,
     };
-    Ok(TypedBody::graph(stmt, sets.columns, graph.edges.copy()?))
+    Ok(TypedBody::graph(stmt, sets.columns, edges))
 }

@@ -25,7 +25,8 @@ pub(crate) fn type_vertices(
     ensures { IfOk result (λ s. s ≡ rules.loaded_vertices file.now columns.now) }
 {
     let rows = SharedType::of(alloc, declared_columns(alloc, columns)?)?;
-    let stmt = TypedStmt::Vertices { file: file.copy()? };
+    let file = file.copy()?;
+    let stmt = TypedStmt::Vertices { file };
     Ok(TypedBody::table(stmt, rows))
 }
 
@@ -43,7 +44,8 @@ pub(crate) fn type_edges(
     ensures { IfOk result (λ s. s ≡ rules.loaded_edges file.now columns.now) }
 {
     let edges = SharedType::of(alloc, declared_columns(alloc, columns)?)?;
-    let stmt = TypedStmt::Edges { file: file.copy()? };
+    let file = file.copy()?;
+    let stmt = TypedStmt::Edges { file };
     Ok(TypedBody::edges(stmt, edges))
 }
 

@@ -29,11 +29,12 @@ pub(crate) fn type_map_vertices(
     ensures { StmtReturns result (rules.mapped_vertices_stmt (operand_types graph.now) sets.now) }
 {
     let sets = type_sets(alloc, sets, &ExprScope::Vertex(graph.vertices.get()))?;
+    let edges = graph.edges.copy()?;
     let stmt = TypedStmt::MapVertices {
         graph: graph.number,
         sets: sets.exprs,
     };
-    Ok(TypedBody::graph(stmt, sets.columns, graph.edges.copy()?))
+    Ok(TypedBody::graph(stmt, sets.columns, edges))
 }
 
 /// `mapedges`
@@ -50,11 +51,11 @@ pub(crate) fn type_map_edges(
     ensures { StmtReturns result (rules.mapped_edges_stmt (operand_types graph.now) sets.now) }
 {
     let sets = type_sets(alloc, sets, &ExprScope::Edge(graph.edges.get()))?;
+    let vertices = graph.vertices.copy()?;
     let stmt = TypedStmt::MapEdges {
         graph: graph.number,
         sets: sets.exprs,
     };
-    let vertices = graph.vertices.copy()?;
     Ok(TypedBody::graph(stmt, vertices, sets.columns))
 }
 
@@ -73,10 +74,10 @@ pub(crate) fn type_map_triplets(
 {
     let scope = ExprScope::Triplet(graph.vertices.get(), graph.edges.get());
     let sets = type_sets(alloc, sets, &scope)?;
+    let vertices = graph.vertices.copy()?;
     let stmt = TypedStmt::MapTriplets {
         graph: graph.number,
         sets: sets.exprs,
     };
-    let vertices = graph.vertices.copy()?;
     Ok(TypedBody::graph(stmt, vertices, sets.columns))
 }

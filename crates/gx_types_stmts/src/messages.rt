@@ -11,7 +11,7 @@ ghost use Rattle.gx_types_stmts.specs.ValueTyping.{column_values};
 
 use crate::columns::check_same_columns;
 use crate::constants::type_row;
-use crate::graphs::same_graph;
+use crate::graphs::types_of;
 use crate::merging::{merge_kinds, message_type};
 use crate::nodes::count_nodes;
 use crate::operand::Operand;
@@ -44,10 +44,11 @@ pub(crate) fn type_aggregate(
     let scope = ExprScope::Triplet(graph.vertices.get(), graph.edges.get());
     let sends = type_sends(alloc, sends, &scope, 0)?;
     let message = message_type(alloc, merges, &sends.kinds)?;
+    let merges = merge_kinds(alloc, merges)?;
     let stmt = TypedStmt::Aggregate {
         graph: graph.number,
         sends: sends.sends,
-        merges: merge_kinds(alloc, merges)?,
+        merges,
         nodes: sends.next,
     };
     Ok(TypedBody::table(stmt, message))
@@ -87,6 +88,8 @@ pub(crate) fn type_pregel(
     ensures { StmtReturns result (rules.iterated_graph (operand_types graph.now) parts.now.rounds
         parts.now.active parts.now.merges.now parts.now.initial.now parts.now.program.now parts.now.sends.now) }
 {
+    let (vertices, edges) = types_of(graph)?;
+    let merges = merge_kinds(alloc, parts.merges)?;
     let scope = ExprScope::Triplet(graph.vertices.get(), graph.edges.get());
     let sends = type_sends(alloc, parts.sends, &scope, count_nodes(parts.program))?;
     let message = message_type(alloc, parts.merges, &sends.kinds)?;
@@ -98,11 +101,11 @@ pub(crate) fn type_pregel(
         graph: graph.number,
         rounds: parts.rounds,
         active: direction_of_written(parts.active),
-        merges: merge_kinds(alloc, parts.merges)?,
+        merges,
         initial,
         program: program.exprs,
         sends: sends.sends,
         nodes: sends.next,
     };
-    Ok(same_graph(stmt, graph)?)
+    Ok(TypedBody::graph(stmt, vertices, edges))
 }

@@ -37,9 +37,9 @@ pub(crate) fn type_degrees(
     ensures { IfOk result
         (λ s. s ≡ short_forms.degree_table (operand_types graph.now) direction) }
 {
+    let degree = lone_column(alloc, "degree", ValueKind::Int)?;
     let sends = sends_along(alloc, Content::One, direction)?;
     let stmt = merged(alloc, graph, sends, MergeKind::Sum)?;
-    let degree = lone_column(alloc, "degree", ValueKind::Int)?;
     Ok(TypedBody::table(stmt, degree))
 }
 
@@ -56,9 +56,9 @@ pub(crate) fn type_neighbours(
     ensures { IfOk result
         (λ s. s ≡ short_forms.neighbour_table (operand_types graph.now) direction) }
 {
+    let ids = lone_column(alloc, "ids", ValueKind::Ids)?;
     let sends = sends_along(alloc, Content::Neighbour, direction)?;
     let stmt = merged(alloc, graph, sends, MergeKind::Bag)?;
-    let ids = lone_column(alloc, "ids", ValueKind::Ids)?;
     Ok(TypedBody::table(stmt, ids))
 }
 

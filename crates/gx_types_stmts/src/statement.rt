@@ -34,11 +34,12 @@ pub fn type_stmt(alloc: Global, known: &Known, stmt: &Stmt) -> Result<CheckedStm
     let first = known.operand(&parts.first)?;
     let second = known.operand(&parts.second)?;
     check_lists(&parts, known.rounds())?;
+    let uses = used_numbers(alloc, &first, &second)?;
     let body = type_body(alloc, stmt, &first, &second)?;
     Ok(CheckedStmt {
         stmt: body.stmt,
         made: body.made,
-        uses: used_numbers(alloc, &first, &second)?,
+        uses,
     })
 }
 

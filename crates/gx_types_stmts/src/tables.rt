@@ -20,13 +20,6 @@ use gx_types_exprs::ExprScope;
 use sqlite_items::Items;
 use std::alloc::Global;
 
-// A statement that makes a table with the row type of another.
-fn same_table(stmt: TypedStmt, table: &Operand<'_>) -> Result<TypedBody, NoMemory>
-    ensures { IfOk result (λ s. s ≡ rules.same_table stmt (operand_types table.now)) }
-{
-    Ok(TypedBody::table(stmt, table.vertices.copy()?))
-}
-
 /// `filter`
 ///
 /// # Errors
@@ -43,11 +36,12 @@ pub(crate) fn type_filter(
 {
     let scope = ExprScope::Vertex(table.vertices.get());
     let condition = type_condition(alloc, condition, &scope, 0)?;
+    let rows = table.vertices.copy()?;
     let stmt = TypedStmt::Filter {
         table: table.number,
         condition: condition.expr,
     };
-    Ok(same_table(stmt, table)?)
+    Ok(TypedBody::table(stmt, rows))
 }
 
 /// `mapvalues`
@@ -80,11 +74,12 @@ pub(crate) fn type_minus(table: &Operand<'_>, other: &Operand<'_>) -> Result<Typ
     ensures { IfOk result
         (λ s. s ≡ rules.subtracted_table (operand_types table.now) (operand_types other.now)) }
 {
+    let rows = table.vertices.copy()?;
     let stmt = TypedStmt::Minus {
         table: table.number,
         other: other.number,
     };
-    same_table(stmt, table)
+    Ok(TypedBody::table(stmt, rows))
 }
 
 /// `diff`
@@ -97,11 +92,12 @@ pub(crate) fn type_diff(table: &Operand<'_>, other: &Operand<'_>) -> Result<Type
         (rules.compared_table (operand_types table.now) (operand_types other.now)) }
 {
     check_same_kinds(table.vertices.get(), other.vertices.get())?;
+    let rows = table.vertices.copy()?;
     let stmt = TypedStmt::Diff {
         table: table.number,
         other: other.number,
     };
-    Ok(same_table(stmt, table)?)
+    Ok(TypedBody::table(stmt, rows))
 }
 
 /// `innerjoin`

@@ -9,4 +9,4 @@ returns-clause-named c =
     let a = operand_types c.in_ok-first.first in
     let b = operand_types c.in_ok-second.second in
     let names = IfOk-at_ok (NamesOperands a b c.args.stmt.now) c.in_ok-body.ensures (typed_body-names a b c.args.stmt.now) in
-    rw (c.in_ok-used_numbers.ensures, names, ← c.parts_of-parts.ensures, c.in_ok-first.ensures.numbered, c.in_ok-second.ensures.numbered) refl
+    rw (c.in_ok-uses.ensures, names, ← c.parts_of-parts.ensures, c.in_ok-first.ensures.numbered, c.in_ok-second.ensures.numbered) refl
