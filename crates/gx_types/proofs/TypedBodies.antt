@@ -11,17 +11,17 @@ use Rattle.gx_types.specs.Built.{is_built, is_run}
 use Rattle.gx_types.specs.SoundStmts.{HasWrittenCut}
 use Rattle.gx_types.specs.StmtSorts.{named_sorts, sort_made}
 use Rattle.gx_types_exprs.specs.ExprScopes.{vertex_scope, triplet_scope, edge_scope, join_scope, outer_join_scope, program_scope}
-use Rattle.gx_types_stmts.specs.Constants.{constant_row}
+use Rattle.gx_types_clauses.specs.Constants.{constant_row}
 use Rattle.gx_types_stmts.specs.Makes.{OperandTypes, is_of_sort}
-use Rattle.gx_types_stmts.specs.Merging.{grouped_columns, message_columns}
-use Rattle.gx_types_stmts.specs.NamedParts.{UsedName, named_parts}
-use Rattle.gx_types_stmts.specs.SameColumns.{checked_same_columns, checked_same_kinds}
-use Rattle.gx_types_stmts.specs.Sending.{typed_sends}
+use Rattle.gx_types_clauses.specs.Merging.{grouped_columns, message_columns}
+use Rattle.gx_types_clauses.specs.NamedParts.{UsedName, named_parts}
+use Rattle.gx_types_clauses.specs.SameColumns.{checked_same_columns, checked_same_kinds}
+use Rattle.gx_types_clauses.specs.Sending.{typed_sends}
 use Rattle.gx_types_stmts.specs.StmtTyping.{typed_body}
-use Rattle.gx_types_stmts.specs.ValueTyping.{column_values, typed_condition, typed_sets, typed_test}
+use Rattle.gx_types_clauses.specs.ValueTyping.{column_values, typed_condition, typed_sets, typed_test}
 use Rattle.gx_types_stmts.specs.declared.made.Made.{Made}
-use Rattle.gx_types_stmts.specs.declared.sort.Sort.{Sort}
-use Rattle.gx_types_stmts.specs.declared.sort.Sort.TheVariants.{Table, Edges, Graph}
+use Rattle.gx_types_clauses.specs.declared.sort.Sort.{Sort}
+use Rattle.gx_types_clauses.specs.declared.sort.Sort.TheVariants.{Table, Edges, Graph}
 use Rattle.gx_types_stmts.specs.declared.typed_stmt.TypedStmt.{TypedStmt}
 
 -- a step that may stop, and what holds of what comes after it

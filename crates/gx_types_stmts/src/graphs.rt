@@ -1,22 +1,21 @@
 //! Statements that make a graph of tables, edges and graphs: `graph`, `fromedges`, `reverse`,
 //! `mask`, `subgraph`, `groupedges`, `partition`.
 
-ghost use Rattle.std.specs.Prelude.{◌≡◌, ◌++◌, IfOk, map};
+ghost use Rattle.std.specs.Prelude.{◌≡◌, ◌++◌, IfOk, Ok, map};
 ghost use Rattle.gx_syntax_tree.specs.Bounds.{exprs_if};
+ghost use Rattle.gx_types_clauses.specs.ClauseBounds.{AreTypable, IsColumnList};
+ghost use Rattle.gx_types_clauses.specs.StmtStops.{StmtReturns};
 ghost use Rattle.gx_types_stmts.specs.Makes.{graph_stmt, operand_types};
-ghost use Rattle.gx_types_stmts.specs.StmtBounds.{AreTypable, IsColumnList};
 ghost use Rattle.gx_types_stmts.specs.StmtRules as rules;
-ghost use Rattle.gx_types_stmts.specs.StmtStops.{StmtReturns};
 
-use crate::constants::{named_row, named_type, type_row};
-use crate::merging::{grouped_type, merge_kinds};
 use crate::operand::Operand;
-use crate::tests_of_rows::type_test;
 use crate::typed_body::TypedBody;
-use crate::words::cut_of_written;
 use crate::{SharedType, StmtStop, TypedStmt};
 use gx_rows::NoMemory;
 use gx_syntax_tree::{ColumnConst, ColumnMerge, Const, CutWord, Expr};
+use gx_types_clauses::{
+    cut_of_written, grouped_type, merge_kinds, named_row, named_type, type_row, type_test,
+};
 use gx_types_exprs::ExprScope;
 use sqlite_items::Items;
 use std::alloc::Global;
@@ -68,9 +67,9 @@ pub(crate) fn type_from_edges(
     alloc: Global,
     edges: &Operand<'_>,
     row: &Items<ColumnConst>,
-) -> Result<TypedBody, NoMemory>
+) -> Result<TypedBody, StmtStop>
     requires { IsColumnList (map (λ c. c.name) row.now) }
-    ensures { IfOk result (λ s. s ≡ rules.graph_of_edges (operand_types edges.now) row.now) }
+    ensures { StmtReturns result (Ok (rules.graph_of_edges (operand_types edges.now) row.now)) }
 {
     let vertex_type = named_type(alloc, row)?;
     let edge_type = edges.edges.copy()?;
@@ -87,8 +86,8 @@ pub(crate) fn type_from_edges(
 /// # Errors
 ///
 /// `NoMemory` if no further copy of a row type can be counted.
-pub(crate) fn type_reverse(graph: &Operand<'_>) -> Result<TypedBody, NoMemory>
-    ensures { IfOk result (λ s. s ≡ rules.reversed_graph (operand_types graph.now)) }
+pub(crate) fn type_reverse(graph: &Operand<'_>) -> Result<TypedBody, StmtStop>
+    ensures { StmtReturns result (Ok (rules.reversed_graph (operand_types graph.now))) }
 {
     let (vertices, edges) = types_of(graph)?;
     let stmt = TypedStmt::Reverse {
@@ -102,9 +101,9 @@ pub(crate) fn type_reverse(graph: &Operand<'_>) -> Result<TypedBody, NoMemory>
 /// # Errors
 ///
 /// `NoMemory` if no further copy of a row type can be counted.
-pub(crate) fn type_mask(graph: &Operand<'_>, by: &Operand<'_>) -> Result<TypedBody, NoMemory>
-    ensures { IfOk result
-        (λ s. s ≡ rules.masked_graph (operand_types graph.now) (operand_types by.now)) }
+pub(crate) fn type_mask(graph: &Operand<'_>, by: &Operand<'_>) -> Result<TypedBody, StmtStop>
+    ensures { StmtReturns result
+        (Ok (rules.masked_graph (operand_types graph.now) (operand_types by.now))) }
 {
     let (vertices, edges) = types_of(graph)?;
     let stmt = TypedStmt::Mask {
@@ -119,7 +118,7 @@ pub(crate) fn type_mask(graph: &Operand<'_>, by: &Operand<'_>) -> Result<TypedBo
 /// # Errors
 ///
 /// The first check that fails; `NoMemory` if memory runs out.
-#[tactic(auto, using(crate::proofs::BoundLemmas::left_short, crate::proofs::BoundLemmas::right_short, crate::proofs::BoundLemmas::joined_counted))]
+#[tactic(auto, using(gx_types_clauses::specs::BoundLaws::left_short, gx_types_clauses::specs::BoundLaws::right_short, gx_types_clauses::specs::BoundLaws::joined_counted))]
 pub(crate) fn type_subgraph(
     alloc: Global,
     graph: &Operand<'_>,
@@ -130,11 +129,11 @@ pub(crate) fn type_subgraph(
     ensures { StmtReturns result
         (rules.tested_graph (operand_types graph.now) vertices.now edges.now) }
 {
-    let (vertex_type, edge_type) = types_of(graph)?;
     let rows = graph.vertices.get();
     let vertices = type_test(alloc, vertices, &ExprScope::Vertex(rows), 0)?;
     let scope = ExprScope::Triplet(rows, graph.edges.get());
     let edges = type_test(alloc, edges, &scope, vertices.next)?;
+    let (vertex_type, edge_type) = types_of(graph)?;
     let stmt = TypedStmt::Subgraph {
         graph: graph.number,
         vertices: vertices.test,
@@ -171,8 +170,8 @@ pub(crate) fn type_group_edges(
 /// # Errors
 ///
 /// `NoMemory` if no further copy of a row type can be counted.
-pub(crate) fn type_partition(graph: &Operand<'_>, cut: CutWord) -> Result<TypedBody, NoMemory>
-    ensures { IfOk result (λ s. s ≡ rules.partitioned_graph (operand_types graph.now) cut) }
+pub(crate) fn type_partition(graph: &Operand<'_>, cut: CutWord) -> Result<TypedBody, StmtStop>
+    ensures { StmtReturns result (Ok (rules.partitioned_graph (operand_types graph.now) cut)) }
 {
     let (vertices, edges) = types_of(graph)?;
     let stmt = TypedStmt::Partition {

@@ -1,17 +1,18 @@
 //! The short forms of `aggregate`: `indegrees`, `outdegrees`, `degrees`, `neighbours`.
 
-ghost use Rattle.std.specs.Prelude.{◌≡◌, IfOk};
+ghost use Rattle.std.specs.Prelude.{◌≡◌, [], ◌∷◌, IfOk, Ok};
+ghost use Rattle.gx_types_clauses.specs.StmtStops.{StmtReturns};
 ghost use Rattle.gx_types_stmts.specs.Makes.{operand_types};
 ghost use Rattle.gx_types_stmts.specs.ShortForms as short_forms;
 
-use crate::loads::lone_column;
 use crate::operand::Operand;
 use crate::typed_body::TypedBody;
-use crate::{EdgeEnd, TypedSend, TypedStmt};
+use crate::{EdgeEnd, StmtStop, TypedSend, TypedStmt};
 use gx_expr::{Expr, Side};
 use gx_merge::MergeKind;
 use gx_rows::{NoMemory, Value, ValueKind};
 use gx_syntax_tree::NeighbourWord;
+use gx_types_clauses::lone_type;
 use sqlite_items::Items;
 use std::alloc::Global;
 
@@ -33,13 +34,19 @@ pub(crate) fn type_degrees(
     alloc: Global,
     graph: &Operand<'_>,
     direction: NeighbourWord,
-) -> Result<TypedBody, NoMemory>
-    ensures { IfOk result
-        (λ s. s ≡ short_forms.degree_table (operand_types graph.now) direction) }
+) -> Result<TypedBody, StmtStop>
+    ensures { StmtReturns result
+        (Ok (short_forms.degree_table (operand_types graph.now) direction)) }
 {
-    let degree = lone_column(alloc, "degree", ValueKind::Int)?;
+    let degree = lone_type(alloc, "degree", ValueKind::Int)?;
+    let merges = lone_merge(alloc, MergeKind::Sum)?;
     let sends = sends_along(alloc, Content::One, direction)?;
-    let stmt = merged(alloc, graph, sends, MergeKind::Sum)?;
+    let stmt = TypedStmt::Aggregate {
+        graph: graph.number,
+        sends,
+        merges,
+        nodes: 0,
+    };
     Ok(TypedBody::table(stmt, degree))
 }
 
@@ -52,34 +59,29 @@ pub(crate) fn type_neighbours(
     alloc: Global,
     graph: &Operand<'_>,
     direction: NeighbourWord,
-) -> Result<TypedBody, NoMemory>
-    ensures { IfOk result
-        (λ s. s ≡ short_forms.neighbour_table (operand_types graph.now) direction) }
+) -> Result<TypedBody, StmtStop>
+    ensures { StmtReturns result
+        (Ok (short_forms.neighbour_table (operand_types graph.now) direction)) }
 {
-    let ids = lone_column(alloc, "ids", ValueKind::Ids)?;
+    let ids = lone_type(alloc, "ids", ValueKind::Ids)?;
+    let merges = lone_merge(alloc, MergeKind::Bag)?;
     let sends = sends_along(alloc, Content::Neighbour, direction)?;
-    let stmt = merged(alloc, graph, sends, MergeKind::Bag)?;
-    Ok(TypedBody::table(stmt, ids))
-}
-
-// An aggregate of one merge, in whose text no node is written.
-fn merged(
-    alloc: Global,
-    graph: &Operand<'_>,
-    sends: Items<TypedSend>,
-    merge: MergeKind,
-) -> Result<TypedStmt, NoMemory>
-    ensures { IfOk result
-        (λ s. s ≡ short_forms.merged_by (operand_types graph.now) sends merge) }
-{
-    let mut merges = Items::new(alloc);
-    merges.push(merge)?;
-    Ok(TypedStmt::Aggregate {
+    let stmt = TypedStmt::Aggregate {
         graph: graph.number,
         sends,
         merges,
         nodes: 0,
-    })
+    };
+    Ok(TypedBody::table(stmt, ids))
+}
+
+// A list of one merge.
+fn lone_merge(alloc: Global, merge: MergeKind) -> Result<Items<MergeKind>, NoMemory>
+    ensures { IfOk result (λ merges. merges ≡ merge ∷ []) }
+{
+    let mut merges = Items::new(alloc);
+    merges.push(merge)?;
+    Ok(merges)
 }
 
 // The sends to the ends of edges that come in, go out, or either.
