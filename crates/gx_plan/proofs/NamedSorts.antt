@@ -9,10 +9,10 @@ use Rattle.gx_types.specs.Built.{is_run}
 use Rattle.gx_types.specs.SoundStmts.{AreRun, HasWrittenCut, HaveWrittenCuts}
 use Rattle.gx_types.specs.StmtSorts.{HasNamedSorts, IsMadeWithin, named_sorts, sort_made, sort_of_number}
 use Rattle.gx_types.specs.CutWordLaws.{each-cut_word}
-use Rattle.gx_types_stmts.specs.StmtWords.{cut_of_written}
+use Rattle.gx_types_clauses.specs.StmtWords.{cut_of_written}
 use Rattle.gx_types_stmts.specs.declared.checked_stmt.CheckedStmt.{CheckedStmt}
-use Rattle.gx_types_stmts.specs.declared.sort.Sort.{Sort}
-use Rattle.gx_types_stmts.specs.declared.sort.Sort.TheVariants as sort
+use Rattle.gx_types_clauses.specs.declared.sort.Sort.{Sort}
+use Rattle.gx_types_clauses.specs.declared.sort.Sort.TheVariants as sort
 use Rattle.gx_types_stmts.specs.declared.typed_stmt.TypedStmt.{TypedStmt}
 use Rattle.gx_types_stmts.specs.declared.typed_stmt.TypedStmt.TheVariants as stmts
 use Rattle.gx_plan.specs.PlanLaws.{HasSorts, IsEarlierOf, MoveByEnds, MovesByEnds, ReadsEarlier, makes_kind}

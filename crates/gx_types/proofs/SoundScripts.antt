@@ -17,17 +17,17 @@ use Rattle.gx_types.specs.StmtSorts.{HasNamedSorts, IsMadeWithin, named_sorts, s
 use Rattle.gx_types.specs.TypeStops.{at_statement}
 use Rattle.gx_types.specs.declared.type_stop.TypeStop.{TypeStop}
 use Rattle.gx_types_exprs.specs.declared.type_kind.TypeKind.TheVariants as type_kind
-use Rattle.gx_types_stmts.specs.ColumnLists.{checked_columns, checked_limit, checked_lists, checked_names}
+use Rattle.gx_types_clauses.specs.ColumnLists.{checked_columns, checked_limit, checked_lists, checked_names}
 use Rattle.gx_types_stmts.specs.KnownNames.{Context, definition_of, free_name, no_context, operand_if, used_operand, with_new_name}
 use Rattle.gx_types_stmts.specs.Makes.{OperandTypes, is_of_sort, operand_of}
-use Rattle.gx_types_stmts.specs.NamedParts.{NamedParts, UsedName, named_parts}
-use Rattle.gx_types_stmts.specs.StmtStops.{stmt_refusal}
+use Rattle.gx_types_clauses.specs.NamedParts.{NamedParts, UsedName, named_parts}
+use Rattle.gx_types_clauses.specs.StmtStops.{stmt_refusal}
 use Rattle.gx_types_stmts.specs.StmtTyping.{context_with, typed_body, typed_stmt}
 use Rattle.gx_types_stmts.specs.declared.checked_stmt.CheckedStmt.{CheckedStmt}
 use Rattle.gx_types_stmts.specs.declared.known.Definition.{Definition}
-use Rattle.gx_types_stmts.specs.declared.sort.Sort.{Sort}
-use Rattle.gx_types_stmts.specs.declared.stmt_stop.StmtStop.{StmtStop}
-use Rattle.gx_types_stmts.specs.declared.stmt_stop.StmtStop.TheVariants as stop
+use Rattle.gx_types_clauses.specs.declared.sort.Sort.{Sort}
+use Rattle.gx_types_clauses.specs.declared.stmt_stop.StmtStop.{StmtStop}
+use Rattle.gx_types_clauses.specs.declared.stmt_stop.StmtStop.TheVariants as stop
 use Rattle.gx_types.proofs.ScriptWalk.{AreTypedStmts, typed-all}
 use Rattle.gx_types.proofs.TypedBodies.{FitsWritten, IsFewOperand, after-fact, after-step, body-fits, if-fact, made-of_sort, sort_if_used}
 use Rattle.gx_types.proofs.UseLemmas.{pushed-at}

@@ -19,17 +19,17 @@ use Rattle.gx_types.specs.Built.{is_built, is_run}
 use Rattle.gx_types.specs.SoundStmts.{HasFewColumns, HasWrittenCut}
 use Rattle.gx_types.specs.StmtSorts.{named_sorts, sort_made, sort_of_types}
 use Rattle.gx_types_exprs.specs.ExprScopes.{ScopeNames, vertex_scope, triplet_scope, edge_scope, join_scope, outer_join_scope, program_scope}
-use Rattle.gx_types_stmts.specs.Constants.{const_kind, constant_row}
+use Rattle.gx_types_clauses.specs.Constants.{const_kind, constant_row}
 use Rattle.gx_types_stmts.specs.Makes.{OperandTypes, is_of_sort}
-use Rattle.gx_types_stmts.specs.Merging.{first_kinds, given_columns, grouped_columns, have_merges, merged_columns, message_columns, take_each}
-use Rattle.gx_types_stmts.specs.NamedParts.{UsedName, named_parts}
-use Rattle.gx_types_stmts.specs.SameColumns.{checked_same_columns, checked_same_kinds, kinds_in}
-use Rattle.gx_types_stmts.specs.Sending.{typed_sends}
+use Rattle.gx_types_clauses.specs.Merging.{first_kinds, given_columns, grouped_columns, have_merges, merged_columns, message_columns, take_each}
+use Rattle.gx_types_clauses.specs.NamedParts.{UsedName, named_parts}
+use Rattle.gx_types_clauses.specs.SameColumns.{checked_same_columns, checked_same_kinds, kinds_in}
+use Rattle.gx_types_clauses.specs.Sending.{typed_sends}
 use Rattle.gx_types_stmts.specs.StmtTyping.{typed_body}
-use Rattle.gx_types_stmts.specs.ValueTyping.{column_values, typed_condition, typed_sets, typed_test, typed_values}
+use Rattle.gx_types_clauses.specs.ValueTyping.{column_values, typed_condition, typed_sets, typed_test, typed_values}
 use Rattle.gx_types_stmts.specs.declared.made.Made.{Made}
-use Rattle.gx_types_stmts.specs.declared.sort.Sort.{Sort}
-use Rattle.gx_types_stmts.specs.declared.sort.Sort.TheVariants.{Table, Edges, Graph}
+use Rattle.gx_types_clauses.specs.declared.sort.Sort.{Sort}
+use Rattle.gx_types_clauses.specs.declared.sort.Sort.TheVariants.{Table, Edges, Graph}
 use Rattle.gx_types_stmts.specs.declared.typed_stmt.TypedStmt.{TypedStmt}
 
 -- ---- steps that may stop

@@ -4,7 +4,7 @@ use Rattle.gx_syntax_tree.specs.declared.words.CutWord.{CutWord}
 use Rattle.gx_types.specs.Built.{is_run}
 use Rattle.gx_types.specs.Needs.{NamesAreUsed, UseEarlier}
 use Rattle.gx_types.specs.StmtSorts.{HasNamedSorts, sort_made, sort_of_types}
-use Rattle.gx_types_stmts.specs.StmtWords.{cut_of_written}
+use Rattle.gx_types_clauses.specs.StmtWords.{cut_of_written}
 use Rattle.gx_types_stmts.specs.declared.checked_stmt.CheckedStmt.{CheckedStmt}
 use Rattle.gx_types_stmts.specs.declared.made.Made.{Made}
 use Rattle.gx_types_stmts.specs.declared.typed_stmt.TypedStmt.{TypedStmt}

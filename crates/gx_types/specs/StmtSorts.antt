@@ -6,8 +6,8 @@ use Rattle.std.specs.List.{AllByRecursion}
 use Rattle.gx_rows.specs.Columns.{Column}
 use Rattle.gx_types_stmts.specs.StmtNumbers.{named_numbers}
 use Rattle.gx_types_stmts.specs.declared.checked_stmt.CheckedStmt.{CheckedStmt}
-use Rattle.gx_types_stmts.specs.declared.sort.Sort.{Sort}
-use Rattle.gx_types_stmts.specs.declared.sort.Sort.TheVariants.{Table, Edges, Graph}
+use Rattle.gx_types_clauses.specs.declared.sort.Sort.{Sort}
+use Rattle.gx_types_clauses.specs.declared.sort.Sort.TheVariants.{Table, Edges, Graph}
 use Rattle.gx_types_stmts.specs.declared.typed_stmt.TypedStmt.{TypedStmt}
 use Rattle.gx_types_stmts.specs.declared.typed_stmt.TypedStmt.TheVariants as typed
 

@@ -2,8 +2,8 @@
 use Rattle.std.specs.Prelude.{◌≡◌, ℕ, Result, Ok, Err, ⊤}
 use Rattle.gx_types.specs.declared.type_stop.TypeStop.{TypeStop}
 use Rattle.gx_types.specs.declared.type_stop.TypeStop.TheVariants as stop
-use Rattle.gx_types_stmts.specs.declared.stmt_stop.StmtStop.{StmtStop}
-use Rattle.gx_types_stmts.specs.declared.stmt_stop.StmtStop.TheVariants as stmt_stop
+use Rattle.gx_types_clauses.specs.declared.stmt_stop.StmtStop.{StmtStop}
+use Rattle.gx_types_clauses.specs.declared.stmt_stop.StmtStop.TheVariants as stmt_stop
 
 -- the statement of this number is refused
 abbrev pub stop_at : ℕ → StmtStop → TypeStop

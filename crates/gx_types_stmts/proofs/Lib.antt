@@ -1,11 +1,3 @@
-mod BoundLemmas
-mod ColumnLemmas
-mod ColumnNames
-mod Conversions
 mod KnownLemmas
-mod LimitLemmas
-mod NodeCounts
 mod PartBounds
-mod SendWalk
 mod StatementLemmas
-mod ValueWalk

@@ -5,10 +5,11 @@ use Rattle.gx_syntax_tree.specs.Bounds.{exprs_in_stmt}
 use Rattle.gx_syntax_tree.specs.declared.expr.Expr.{Expr}
 use Rattle.gx_syntax_tree.specs.declared.parts.ColumnExpr.{ColumnExpr}
 use Rattle.gx_syntax_tree.specs.declared.stmt.Stmt.{Stmt}
-use Rattle.gx_types_stmts.specs.NamedParts.{named_parts}
-use Rattle.gx_types_stmts.specs.StmtBounds.{AreTypable, AreTypableSets, HasCheckedLists, IsColumnList, IsTypable}
-use Rattle.gx_types_stmts.specs.ValueTyping.{column_values}
-use Rattle.gx_types_stmts.proofs.BoundLemmas.{whole_typable}
+use Rattle.gx_types_clauses.specs.NamedParts.{named_parts}
+use Rattle.gx_types_clauses.specs.ClauseBounds.{AreTypable, AreTypableSets, HasCheckedLists, IsColumnList}
+use Rattle.gx_types_stmts.specs.StmtBounds.{IsTypable}
+use Rattle.gx_types_clauses.specs.ValueTyping.{column_values}
+use Rattle.gx_types_clauses.specs.BoundLaws.{whole_typable}
 
 -- the only expressions of a statement
 pub exprs-typable : (s m : Stmt) (es : List Expr) → s ≡ m → exprs_in_stmt m ≡ es ++ [] → IsTypable s → AreTypable es

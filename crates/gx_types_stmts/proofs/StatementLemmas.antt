@@ -7,15 +7,15 @@ use Rattle.gx_syntax_tree.specs.Bounds.{node_count}
 use Rattle.gx_syntax_tree.specs.declared.stmt.Stmt.{Stmt}
 use Rattle.gx_syntax_tree.specs.declared.stmt.Stmt.TheVariants as stmts
 use Rattle.gx_types_exprs.specs.ExprScopes.{vertex_scope, triplet_scope, edge_scope, join_scope, outer_join_scope, program_scope}
-use Rattle.gx_types_stmts.specs.Constants.{constant_row}
+use Rattle.gx_types_clauses.specs.Constants.{constant_row}
 use Rattle.gx_types_stmts.specs.Makes.{OperandTypes}
-use Rattle.gx_types_stmts.specs.Merging.{grouped_columns, message_columns}
-use Rattle.gx_types_stmts.specs.NamedParts.{named_parts}
-use Rattle.gx_types_stmts.specs.SameColumns.{checked_same_columns, checked_same_kinds}
-use Rattle.gx_types_stmts.specs.Sending.{typed_sends}
+use Rattle.gx_types_clauses.specs.Merging.{grouped_columns, message_columns}
+use Rattle.gx_types_clauses.specs.NamedParts.{named_parts}
+use Rattle.gx_types_clauses.specs.SameColumns.{checked_same_columns, checked_same_kinds}
+use Rattle.gx_types_clauses.specs.Sending.{typed_sends}
 use Rattle.gx_types_stmts.specs.StmtNumbers.{named_numbers, number_if_used}
 use Rattle.gx_types_stmts.specs.StmtTyping.{typed_body}
-use Rattle.gx_types_stmts.specs.ValueTyping.{column_values, typed_condition, typed_sets, typed_test}
+use Rattle.gx_types_clauses.specs.ValueTyping.{column_values, typed_condition, typed_sets, typed_test}
 use Rattle.gx_types_stmts.specs.declared.typed_body.TypedBody.{TypedBody}
 
 -- a step that may stop

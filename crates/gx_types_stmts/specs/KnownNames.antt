@@ -1,15 +1,18 @@
 -- Names: what is known before a statement, and the first two checks.
-use Rattle.std.specs.Prelude.{◌≡◌, ℕ, ◌+◌, ◌≤◌, All, if◌then◌else◌, Option, None, Some, Result, Ok, List, [], ◌∷◌, ◌++◌, map, unwrap_or, string_bytes, String, codes, refl}
+use Rattle.std.specs.Prelude.{◌≡◌, ℕ, ◌+◌, ◌≤◌, All, if◌then◌else◌, Option, None, Some, Result, Ok}
+use Rattle.std.specs.Prelude.{List, [], ◌∷◌, ◌++◌, map, unwrap_or, string_bytes, String, codes}
+use Rattle.std.specs.Prelude.{refl}
 use Rattle.std.specs.Map.{lookup}
 use Rattle.std.specs.Str.{bytes_eq}
 use Rattle.gx_rows.specs.Columns.{Column}
 use Rattle.gx_types_exprs.specs.declared.type_kind.TypeKind.TheVariants as type_kind
-use Rattle.gx_types_stmts.specs.Makes.{OperandTypes, no_operand, operand_of, is_of_sort, table_made, example_table}
-use Rattle.gx_types_stmts.specs.NamedParts.{UsedName, used_table, used_graph}
-use Rattle.gx_types_stmts.specs.StmtStops.{stmt_refusal}
+use Rattle.gx_types_stmts.specs.Makes.{OperandTypes, no_operand, operand_of, is_of_sort, table_made}
+use Rattle.gx_types_stmts.specs.Makes.{example_table}
+use Rattle.gx_types_clauses.specs.NamedParts.{UsedName, used_table, used_graph}
+use Rattle.gx_types_clauses.specs.StmtStops.{stmt_refusal}
 use Rattle.gx_types_stmts.specs.declared.known.Definition.{Definition}
 use Rattle.gx_types_stmts.specs.declared.made.Made.{Made}
-use Rattle.gx_types_stmts.specs.declared.stmt_stop.StmtStop.{StmtStop}
+use Rattle.gx_types_clauses.specs.declared.stmt_stop.StmtStop.{StmtStop}
 
 -- what the statements so far made
 pub record Context : Type 0 where
@@ -48,7 +51,8 @@ free_name k (Some name) = free_if (definition_of k name)
 
 abbrev pub operand_if : UsedName → Option Definition → Result OperandTypes StmtStop
 operand_if u (Some d) =
-    if is_of_sort u.sort d.made then Ok (operand_of d.number d.made) else stmt_refusal type_kind.WrongSort
+    if is_of_sort u.sort d.made then Ok (operand_of d.number d.made)
+    else stmt_refusal type_kind.WrongSort
 operand_if u None = stmt_refusal type_kind.NameUnknown
 
 abbrev pub named_operand : Context → UsedName → Result OperandTypes StmtStop
@@ -61,7 +65,8 @@ used_operand k (Some u) = named_operand k u
 
 -- ---- after a statement
 
-abbrev pub with_new_name : List (List ℕ × Definition) → Option (List ℕ) → Definition → List (List ℕ × Definition)
+abbrev pub with_new_name : List (List ℕ × Definition) → Option (List ℕ) → Definition
+    → List (List ℕ × Definition)
 with_new_name names None d = names
 with_new_name names (Some name) d = names ++ (name, d) ∷ []
 
@@ -75,7 +80,8 @@ context_after k name rounds made = record {
 
 -- ---- the same, as the code keeps them
 
-abbrev pub named_definitions : {A : Type 0} → List (String A × Definition) → List (List ℕ × Definition)
+abbrev pub named_definitions : {A : Type 0} → List (String A × Definition)
+    → List (List ℕ × Definition)
 named_definitions es = map (λ e. (string_bytes e.0, e.1)) es
 
 abbrev pub columns_or_none : Option (List Column) → List Column

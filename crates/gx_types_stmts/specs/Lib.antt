@@ -1,16 +1,7 @@
-pub mod ColumnLists
-pub mod Constants
 pub mod KnownNames
 pub mod Makes
-pub mod Merging
-pub mod NamedParts
-pub mod SameColumns
-pub mod Sending
 pub mod ShortForms
 pub mod StmtBounds
 pub mod StmtNumbers
 pub mod StmtRules
-pub mod StmtStops
 pub mod StmtTyping
-pub mod StmtWords
-pub mod ValueTyping

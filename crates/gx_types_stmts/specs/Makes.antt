@@ -1,12 +1,13 @@
 -- What a statement makes, and what a statement reads of what others made.
-use Rattle.std.specs.Prelude.{◌≡◌, ℕ, Bool, true, false, ◌&&◌, None, Some, List, [], ◌∷◌, is_some, is_none, unwrap_or, codes, refl}
+use Rattle.std.specs.Prelude.{◌≡◌, ℕ, Bool, true, false, ◌&&◌, None, Some, List, [], ◌∷◌, is_some}
+use Rattle.std.specs.Prelude.{is_none, unwrap_or, codes, refl}
 use Rattle.gx_rows.specs.Columns.{Column}
 use Rattle.gx_rows.specs.declared.value.ValueKind.TheVariants as kind
 use Rattle.gx_types_stmts.specs.declared.typed_body.TypedBody.{TypedBody}
 use Rattle.gx_types_stmts.specs.declared.made.Made.{Made}
 use Rattle.gx_types_stmts.specs.declared.operand.Operand.{Operand}
-use Rattle.gx_types_stmts.specs.declared.sort.Sort.{Sort}
-use Rattle.gx_types_stmts.specs.declared.sort.Sort.TheVariants as sort
+use Rattle.gx_types_clauses.specs.declared.sort.Sort.{Sort}
+use Rattle.gx_types_clauses.specs.declared.sort.Sort.TheVariants as sort
 use Rattle.gx_types_stmts.specs.declared.typed_stmt.TypedStmt.{TypedStmt}
 
 abbrev pub table_made : List Column → Made
@@ -51,7 +52,8 @@ abbrev pub no_operand : OperandTypes
 no_operand = record { number = 0; vertices = []; edges = [] }
 
 abbrev pub operand_of : ℕ → Made → OperandTypes
-operand_of number m = record { number = number; vertices = unwrap_or m.vertices []; edges = unwrap_or m.edges [] }
+operand_of number m =
+    record { number = number; vertices = unwrap_or m.vertices []; edges = unwrap_or m.edges [] }
 
 -- the same, as the code lends it
 abbrev pub operand_types : Operand → OperandTypes
@@ -63,6 +65,7 @@ example_table = (codes "a", kind.Int) ∷ []
 
 table-sort : (is_of_sort sort.Table (table_made example_table) ≡ true)
     × (is_of_sort sort.Graph (table_made example_table) ≡ false)
-    × (operand_of 3 (table_made example_table) ≡ record { number = 3; vertices = example_table; edges = [] })
+    × (operand_of 3 (table_made example_table)
+    ≡ record { number = 3; vertices = example_table; edges = [] })
 unfolding example_table
 table-sort = (refl, refl, refl)

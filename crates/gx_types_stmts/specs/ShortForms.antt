@@ -13,9 +13,9 @@ use Rattle.gx_types_stmts.specs.Makes.{OperandTypes, table_stmt}
 use Rattle.gx_types_stmts.specs.declared.typed_body.TypedBody.{TypedBody}
 use Rattle.gx_types_stmts.specs.declared.short_forms.Content.{Content}
 use Rattle.gx_types_stmts.specs.declared.short_forms.Content.TheVariants as content
-use Rattle.gx_types_stmts.specs.declared.typed_send.EdgeEnd.{EdgeEnd}
-use Rattle.gx_types_stmts.specs.declared.typed_send.EdgeEnd.TheVariants as edge_end
-use Rattle.gx_types_stmts.specs.declared.typed_send.TypedSend.{TypedSend}
+use Rattle.gx_types_clauses.specs.declared.typed_send.EdgeEnd.{EdgeEnd}
+use Rattle.gx_types_clauses.specs.declared.typed_send.EdgeEnd.TheVariants as edge_end
+use Rattle.gx_types_clauses.specs.declared.typed_send.TypedSend.{TypedSend}
 use Rattle.gx_types_stmts.specs.declared.typed_stmt.TypedStmt.{TypedStmt}
 use Rattle.gx_types_stmts.specs.declared.typed_stmt.TypedStmt.TheVariants as typed
 
@@ -41,11 +41,13 @@ merged_by g sends by = typed.Aggregate g.number sends (by ∷ []) 0
 -- the degrees, by the edges that are counted
 abbrev pub degree_table : OperandTypes → NeighbourWord → TypedBody
 degree_table g d =
-    table_stmt (merged_by g (sends_along (sent content.One) d) merge.Sum) ((codes "degree", kind.Int) ∷ [])
+    table_stmt (merged_by g (sends_along (sent content.One) d) merge.Sum)
+    ((codes "degree", kind.Int) ∷ [])
 
 abbrev pub neighbour_table : OperandTypes → NeighbourWord → TypedBody
 neighbour_table g d =
-    table_stmt (merged_by g (sends_along (sent content.Neighbour) d) merge.Bag) ((codes "ids", kind.Ids) ∷ [])
+    table_stmt (merged_by g (sends_along (sent content.Neighbour) d) merge.Bag)
+    ((codes "ids", kind.Ids) ∷ [])
 
 -- an edge that comes in sends its source
 source-sent : sends_along (sent content.Neighbour) neighbour_words.In

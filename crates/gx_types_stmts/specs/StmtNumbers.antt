@@ -3,7 +3,7 @@
 -- To add a statement, add its line here.
 use Rattle.std.specs.Prelude.{◌≡◌, ℕ, Option, None, Some, List, [], ◌∷◌, codes, refl}
 use Rattle.gx_types_stmts.specs.Makes.{OperandTypes}
-use Rattle.gx_types_stmts.specs.NamedParts.{UsedName}
+use Rattle.gx_types_clauses.specs.NamedParts.{UsedName}
 use Rattle.gx_types_stmts.specs.declared.typed_stmt.TypedStmt.{TypedStmt}
 use Rattle.gx_types_stmts.specs.declared.typed_stmt.TypedStmt.TheVariants as typed
 
@@ -46,5 +46,6 @@ number_if_used None a = []
 number_if_used (Some u) a = a.number ∷ []
 
 -- `mask` names two graphs, and a load names none
-numbers-named : (named_numbers (typed.Mask 4 2) ≡ 4 ∷ 2 ∷ []) × (named_numbers (typed.Edges (codes "f")) ≡ [])
+numbers-named :
+    (named_numbers (typed.Mask 4 2) ≡ 4 ∷ 2 ∷ []) × (named_numbers (typed.Edges (codes "f")) ≡ [])
 numbers-named = (refl, refl)

@@ -1,9 +1,7 @@
 -- What each statement is checked for after its names, in the order sends, merges, constants, other
 -- expressions, columns; and what it makes.
 use Rattle.std.specs.Prelude.{ℕ, Option, Bool, Result, Ok, List, [], ◌∷◌, map, sum, codes}
-use Rattle.gx_rows.specs.Columns.{Column}
 use Rattle.gx_rows.specs.Results.{◌>>=◌}
-use Rattle.gx_rows.specs.declared.value.ValueKind.{ValueKind}
 use Rattle.gx_rows.specs.declared.value.ValueKind.TheVariants as kind
 use Rattle.gx_syntax_tree.specs.Bounds.{node_count}
 use Rattle.gx_syntax_tree.specs.declared.constant.ColumnConst.{ColumnConst}
@@ -15,26 +13,23 @@ use Rattle.gx_syntax_tree.specs.declared.parts.ColumnMerge.{ColumnMerge}
 use Rattle.gx_syntax_tree.specs.declared.parts.SendClause.{SendClause}
 use Rattle.gx_syntax_tree.specs.declared.words.ActiveWord.{ActiveWord}
 use Rattle.gx_syntax_tree.specs.declared.words.CutWord.{CutWord}
-use Rattle.gx_types_exprs.specs.ExprScopes.{vertex_scope, triplet_scope, edge_scope, join_scope, outer_join_scope, program_scope}
-use Rattle.gx_types_stmts.specs.Constants.{constant_row, named_columns, named_values}
+use Rattle.gx_types_exprs.specs.ExprScopes.{vertex_scope, triplet_scope, edge_scope, join_scope}
+use Rattle.gx_types_exprs.specs.ExprScopes.{outer_join_scope, program_scope}
+use Rattle.gx_types_clauses.specs.Constants.{constant_row, named_columns, named_values}
 use Rattle.gx_types_stmts.specs.Makes.{OperandTypes, table_stmt, edges_stmt, graph_stmt}
-use Rattle.gx_types_stmts.specs.Merging.{grouped_columns, merge_kinds, message_columns}
-use Rattle.gx_types_stmts.specs.SameColumns.{checked_same_columns, checked_same_kinds}
-use Rattle.gx_types_stmts.specs.Sending.{typed_sends}
-use Rattle.gx_types_stmts.specs.StmtWords.{cut_of_written, direction_of_written}
-use Rattle.gx_types_stmts.specs.ValueTyping.{column_values, typed_condition, typed_sets, typed_test}
+use Rattle.gx_types_clauses.specs.DeclaredColumns.{declared_columns, lone_column}
+use Rattle.gx_types_clauses.specs.Merging.{grouped_columns, merge_kinds, message_columns}
+use Rattle.gx_types_clauses.specs.SameColumns.{checked_same_columns, checked_same_kinds}
+use Rattle.gx_types_clauses.specs.Sending.{typed_sends}
+use Rattle.gx_types_clauses.specs.StmtWords.{cut_of_written, direction_of_written}
+use Rattle.gx_types_clauses.specs.ValueTyping.{column_values, typed_condition, typed_sets}
+use Rattle.gx_types_clauses.specs.ValueTyping.{typed_test}
 use Rattle.gx_types_stmts.specs.declared.typed_body.TypedBody.{TypedBody}
-use Rattle.gx_types_stmts.specs.declared.stmt_stop.StmtStop.{StmtStop}
+use Rattle.gx_types_clauses.specs.declared.stmt_stop.StmtStop.{StmtStop}
 use Rattle.gx_types_stmts.specs.declared.typed_stmt.TypedStmt.{TypedStmt}
 use Rattle.gx_types_stmts.specs.declared.typed_stmt.TypedStmt.TheVariants as typed
 
 -- ---- loads
-
-abbrev pub declared_columns : List ColumnDecl → List Column
-declared_columns columns = map (λ c. (c.name, c.kind)) columns
-
-abbrev pub lone_column : List ℕ → ValueKind → List Column
-lone_column name k = (name, k) ∷ []
 
 abbrev pub loaded_vertices : List ℕ → List ColumnDecl → TypedBody
 loaded_vertices file columns = table_stmt (typed.Vertices file) (declared_columns columns)
@@ -43,7 +38,8 @@ abbrev pub loaded_edges : List ℕ → List ColumnDecl → TypedBody
 loaded_edges file columns = edges_stmt (typed.Edges file) (declared_columns columns)
 
 abbrev pub loaded_edge_list : List ℕ → Bool → TypedBody
-loaded_edge_list file oriented = edges_stmt (typed.EdgeList file oriented) (lone_column (codes "value") kind.Int)
+loaded_edge_list file oriented =
+    edges_stmt (typed.EdgeList file oriented) (lone_column (codes "value") kind.Int)
 
 -- ---- graphs
 
@@ -58,7 +54,8 @@ built_graph vs es default = constant_row vs.vertices default >>= λ row.
 
 -- `fromedges`
 abbrev pub graph_of_edges : OperandTypes → List ColumnConst → TypedBody
-graph_of_edges es row = graph_stmt (typed.FromEdges es.number (named_values row)) (named_columns row) es.edges
+graph_of_edges es row =
+    graph_stmt (typed.FromEdges es.number (named_values row)) (named_columns row) es.edges
 
 -- `subgraph`: the nodes of the test of edges are numbered after those of the test of vertices
 abbrev pub tested_graph : OperandTypes → Option Written → Option Written → Result TypedBody StmtStop
@@ -98,7 +95,8 @@ mapped_triplets_stmt g sets = typed_sets (triplet_scope g.vertices g.edges) sets
 -- ---- joins
 
 -- `joinvertices`: the vertices keep their columns
-abbrev pub joined_vertices : OperandTypes → OperandTypes → List ColumnExpr → Result TypedBody StmtStop
+abbrev pub joined_vertices : OperandTypes → OperandTypes → List ColumnExpr
+    → Result TypedBody StmtStop
 joined_vertices g t sets = typed_sets (join_scope g.vertices t.vertices) sets >>= λ s.
     checked_same_columns s.columns g.vertices >>= λ _.
     Ok (same_graph (typed.JoinVertices g.number t.number s.exprs) g)
@@ -112,23 +110,25 @@ outer_joined_graph g t default sets = constant_row t.vertices default >>= λ row
 
 -- ---- messages
 
-abbrev pub aggregated_table : OperandTypes → List SendClause → List ColumnMerge → Result TypedBody StmtStop
+abbrev pub aggregated_table : OperandTypes → List SendClause → List ColumnMerge
+    → Result TypedBody StmtStop
 aggregated_table g sends merges = typed_sends (triplet_scope g.vertices g.edges) 0 sends >>= λ s.
     message_columns merges s.kinds >>= λ message.
     Ok (table_stmt (typed.Aggregate g.number s.sends (merge_kinds merges) s.next) message)
 
--- `pregel`: the sends are written after the program, so that their nodes are numbered after its; the
--- vertices keep their columns
-abbrev pub iterated_graph : OperandTypes → ℕ → ActiveWord → List ColumnMerge → List Const → List ColumnExpr
-    → List SendClause → Result TypedBody StmtStop
+-- `pregel`: the sends are written after the program, so that their nodes are numbered after its;
+-- the vertices keep their columns
+abbrev pub iterated_graph : OperandTypes → ℕ → ActiveWord → List ColumnMerge → List Const
+    → List ColumnExpr → List SendClause → Result TypedBody StmtStop
 iterated_graph g rounds active merges initial program sends =
-    typed_sends (triplet_scope g.vertices g.edges) (sum (map node_count (column_values program))) sends >>= λ s.
+    typed_sends (triplet_scope g.vertices g.edges) (sum (map node_count (column_values program)))
+    sends >>= λ s.
     message_columns merges s.kinds >>= λ message.
     constant_row message initial >>= λ row.
     typed_sets (program_scope g.vertices message) program >>= λ p.
     checked_same_columns p.columns g.vertices >>= λ _.
-    Ok (same_graph (typed.Pregel g.number rounds (direction_of_written active) (merge_kinds merges) row p.exprs
-    s.sends s.next) g)
+    Ok (same_graph (typed.Pregel g.number rounds (direction_of_written active) (merge_kinds merges)
+    row p.exprs s.sends s.next) g)
 
 -- ---- tables
 

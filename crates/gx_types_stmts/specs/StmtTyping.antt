@@ -1,30 +1,36 @@
 -- Typing of a statement: its names, and then what comes after them.
 --
--- To add a statement, add its line in `typed_body`, with its rule in StmtRules.antt, and its line in
--- `named_parts`.
-use Rattle.std.specs.Prelude.{◌≡◌, ℕ, nat_eq, if◌then◌else◌, Result, Ok, List, [], ◌∷◌, ◌++◌, codes, refl}
+-- To add a statement, add its line in `typed_body`, with its rule in StmtRules.antt, and its line
+-- in `named_parts` of gx_types_clauses.
+use Rattle.std.specs.Prelude.{◌≡◌, ℕ, nat_eq, if◌then◌else◌, Result, Ok, List, [], ◌∷◌, ◌++◌, codes}
+use Rattle.std.specs.Prelude.{refl}
 use Rattle.gx_rows.specs.Results.{◌>>=◌}
 use Rattle.gx_syntax_tree.specs.declared.stmt.Stmt.{Stmt}
 use Rattle.gx_syntax_tree.specs.declared.stmt.Stmt.TheVariants as stmts
 use Rattle.gx_syntax_tree.specs.declared.words.NeighbourWord.TheVariants as neighbour_words
-use Rattle.gx_types_stmts.specs.ColumnLists.{checked_lists, rounds_of}
-use Rattle.gx_types_stmts.specs.KnownNames.{Context, context_after, free_name, used_operand, example_context}
+use Rattle.gx_types_clauses.specs.ColumnLists.{checked_lists, rounds_of}
+use Rattle.gx_types_stmts.specs.KnownNames.{Context, context_after, free_name, used_operand}
+use Rattle.gx_types_stmts.specs.KnownNames.{example_context}
 use Rattle.gx_types_stmts.specs.Makes.{OperandTypes, action_stmt, table_made, example_table}
-use Rattle.gx_types_stmts.specs.NamedParts.{named_parts}
+use Rattle.gx_types_clauses.specs.NamedParts.{named_parts}
 use Rattle.gx_types_stmts.specs.ShortForms.{degree_table, neighbour_table}
 use Rattle.gx_types_stmts.specs.StmtRules.{loaded_vertices, loaded_edges, loaded_edge_list}
-use Rattle.gx_types_stmts.specs.StmtRules.{built_graph, graph_of_edges, reversed_graph, masked_graph}
+use Rattle.gx_types_stmts.specs.StmtRules.{built_graph, graph_of_edges, reversed_graph}
+use Rattle.gx_types_stmts.specs.StmtRules.{masked_graph}
 use Rattle.gx_types_stmts.specs.StmtRules.{tested_graph, grouped_graph, partitioned_graph}
-use Rattle.gx_types_stmts.specs.StmtRules.{mapped_vertices_stmt, mapped_edges_stmt, mapped_triplets_stmt}
-use Rattle.gx_types_stmts.specs.StmtRules.{joined_vertices, outer_joined_graph, aggregated_table, iterated_graph}
-use Rattle.gx_types_stmts.specs.StmtRules.{filtered_table, mapped_table, subtracted_table, compared_table}
+use Rattle.gx_types_stmts.specs.StmtRules.{mapped_vertices_stmt, mapped_edges_stmt}
+use Rattle.gx_types_stmts.specs.StmtRules.{mapped_triplets_stmt}
+use Rattle.gx_types_stmts.specs.StmtRules.{joined_vertices, outer_joined_graph, aggregated_table}
+use Rattle.gx_types_stmts.specs.StmtRules.{iterated_graph}
+use Rattle.gx_types_stmts.specs.StmtRules.{filtered_table, mapped_table, subtracted_table}
+use Rattle.gx_types_stmts.specs.StmtRules.{compared_table}
 use Rattle.gx_types_stmts.specs.StmtRules.{joined_table, left_joined_table}
-use Rattle.gx_types_stmts.specs.StmtStops.{stmt_refusal}
+use Rattle.gx_types_clauses.specs.StmtStops.{stmt_refusal}
 use Rattle.gx_types_stmts.specs.declared.checked_stmt.CheckedStmt.{CheckedStmt}
 use Rattle.gx_types_exprs.specs.declared.type_kind.TypeKind.TheVariants as type_kind
 use Rattle.gx_types_stmts.specs.declared.typed_body.TypedBody.{TypedBody}
 use Rattle.gx_types_stmts.specs.declared.made.Made.{Made}
-use Rattle.gx_types_stmts.specs.declared.stmt_stop.StmtStop.{StmtStop}
+use Rattle.gx_types_clauses.specs.declared.stmt_stop.StmtStop.{StmtStop}
 use Rattle.gx_types_stmts.specs.declared.typed_stmt.TypedStmt.TheVariants as typed
 
 -- checks 4 to 8, by what the first and the second used name stand for
@@ -82,7 +88,8 @@ typed_stmt k s =
 
 -- what is known after a statement that makes this
 abbrev pub context_with : Context → Stmt → Made → Context
-context_with k s made = context_after k (named_parts s).new_name (rounds_of (named_parts s).rounds) made
+context_with k s made =
+    context_after k (named_parts s).new_name (rounds_of (named_parts s).rounds) made
 
 -- ---- examples
 

@@ -7,18 +7,18 @@
 //! `?` that a `TypedStmt` passes or outlives.
 
 ghost use Rattle.std.specs.Prelude.{◌≡◌};
+ghost use Rattle.gx_types_clauses.specs.NamedParts.{named_parts};
+ghost use Rattle.gx_types_clauses.specs.ClauseBounds.{HasCheckedLists};
+ghost use Rattle.gx_types_stmts.specs.StmtBounds.{IsTypable};
+ghost use Rattle.gx_types_clauses.specs.StmtStops.{StmtReturns};
 ghost use Rattle.gx_types_stmts.specs.Makes.{operand_types};
-ghost use Rattle.gx_types_stmts.specs.NamedParts.{named_parts};
-ghost use Rattle.gx_types_stmts.specs.StmtBounds.{IsTypable, HasCheckedLists};
 ghost use Rattle.gx_types_stmts.specs.StmtTyping.{typed_body};
-ghost use Rattle.gx_types_stmts.specs.StmtStops.{StmtReturns};
 
 use crate::graphs::{
     type_from_edges, type_graph, type_group_edges, type_mask, type_partition, type_reverse,
     type_subgraph,
 };
 use crate::joins::{type_join_vertices, type_outer_join};
-use crate::limits::rounds_of;
 use crate::loads::{type_edge_list, type_edges, type_vertices};
 use crate::maps::{type_map_edges, type_map_triplets, type_map_vertices};
 use crate::messages::{PregelParts, type_aggregate, type_pregel};
@@ -30,6 +30,7 @@ use crate::tables::{
 use crate::typed_body::TypedBody;
 use crate::{StmtStop, TypedStmt};
 use gx_syntax_tree::{NeighbourWord, Stmt};
+use gx_types_clauses::rounds_of;
 use std::alloc::Global;
 
 /// Checks a statement whose names were checked, by what its first and second used names stand for.

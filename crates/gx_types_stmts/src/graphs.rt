@@ -3,20 +3,19 @@
 
 ghost use Rattle.std.specs.Prelude.{◌≡◌, ◌++◌, IfOk, Ok, map};
 ghost use Rattle.gx_syntax_tree.specs.Bounds.{exprs_if};
+ghost use Rattle.gx_types_clauses.specs.ClauseBounds.{AreTypable, IsColumnList};
+ghost use Rattle.gx_types_clauses.specs.StmtStops.{StmtReturns};
 ghost use Rattle.gx_types_stmts.specs.Makes.{graph_stmt, operand_types};
-ghost use Rattle.gx_types_stmts.specs.StmtBounds.{AreTypable, IsColumnList};
 ghost use Rattle.gx_types_stmts.specs.StmtRules as rules;
-ghost use Rattle.gx_types_stmts.specs.StmtStops.{StmtReturns};
 
-use crate::constants::{named_row, named_type, type_row};
-use crate::merging::{grouped_type, merge_kinds};
 use crate::operand::Operand;
-use crate::tests_of_rows::type_test;
 use crate::typed_body::TypedBody;
-use crate::words::cut_of_written;
 use crate::{SharedType, StmtStop, TypedStmt};
 use gx_rows::NoMemory;
 use gx_syntax_tree::{ColumnConst, ColumnMerge, Const, CutWord, Expr};
+use gx_types_clauses::{
+    cut_of_written, grouped_type, merge_kinds, named_row, named_type, type_row, type_test,
+};
 use gx_types_exprs::ExprScope;
 use sqlite_items::Items;
 use std::alloc::Global;
@@ -119,7 +118,7 @@ pub(crate) fn type_mask(graph: &Operand<'_>, by: &Operand<'_>) -> Result<TypedBo
 /// # Errors
 ///
 /// The first check that fails; `NoMemory` if memory runs out.
-#[tactic(auto, using(crate::proofs::BoundLemmas::left_short, crate::proofs::BoundLemmas::right_short, crate::proofs::BoundLemmas::joined_counted))]
+#[tactic(auto, using(gx_types_clauses::specs::BoundLaws::left_short, gx_types_clauses::specs::BoundLaws::right_short, gx_types_clauses::specs::BoundLaws::joined_counted))]
 pub(crate) fn type_subgraph(
     alloc: Global,
     graph: &Operand<'_>,

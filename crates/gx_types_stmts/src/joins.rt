@@ -1,19 +1,17 @@
 //! Statements that join a graph with a table: `joinvertices`, `outerjoin`.
 
 ghost use Rattle.std.specs.Prelude.{◌≡◌};
+ghost use Rattle.gx_types_clauses.specs.ClauseBounds.{AreTypableSets};
+ghost use Rattle.gx_types_clauses.specs.StmtStops.{StmtReturns};
 ghost use Rattle.gx_types_stmts.specs.Makes.{operand_types};
-ghost use Rattle.gx_types_stmts.specs.StmtBounds.{AreTypableSets};
 ghost use Rattle.gx_types_stmts.specs.StmtRules as rules;
-ghost use Rattle.gx_types_stmts.specs.StmtStops.{StmtReturns};
 
-use crate::columns::check_same_columns;
-use crate::constants::type_row;
 use crate::graphs::types_of;
 use crate::operand::Operand;
-use crate::sets::type_sets;
 use crate::typed_body::TypedBody;
 use crate::{StmtStop, TypedStmt};
 use gx_syntax_tree::{ColumnExpr, Const};
+use gx_types_clauses::{check_same_columns, type_row, type_sets};
 use gx_types_exprs::ExprScope;
 use sqlite_items::Items;
 use std::alloc::Global;

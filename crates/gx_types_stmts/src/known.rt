@@ -1,19 +1,18 @@
 //! What the statements before one made.
 
 ghost use Rattle.std.specs.Prelude.{◌≡◌, ◌<◌, ◌≤◌, IfOk, OnErr, OnOk, option_map};
+ghost use Rattle.gx_types_clauses.specs.NamedParts.{used_name};
+ghost use Rattle.gx_types_clauses.specs.StmtStops.{StmtReturns, StmtReturnsAs};
 ghost use Rattle.gx_types_stmts.specs.KnownNames as names;
 ghost use Rattle.gx_types_stmts.specs.Makes.{operand_types};
-ghost use Rattle.gx_types_stmts.specs.NamedParts.{used_name};
 ghost use Rattle.gx_types_stmts.specs.StmtNumbers.{number_if_used};
-ghost use Rattle.gx_types_stmts.specs.StmtStops.{StmtReturns, StmtReturnsAs};
 ghost use Rattle.gx_types_stmts.specs.StmtTyping.{context_with, typed_stmt, used_number};
 
-use crate::limits::rounds_of;
 use crate::operand::Operand;
-use crate::stmt_parts::{UsedName, parts_of};
 use crate::{CheckedStmt, Made, SharedType, StmtStop, TypeKind};
 use gx_rows::NoMemory;
 use gx_syntax_tree::Stmt;
+use gx_types_clauses::{UsedName, parts_of, rounds_of};
 use indexmap::IndexMap;
 use std::alloc::Global;
 use std::marker::Model;
@@ -49,7 +48,8 @@ impl Model for Known {
       rounds = k.rounds;
     } };
 
-    ghost invariant = { λ k. (k.no_columns ≡ []) × AreEarlier k.len (named_definitions k.names.entries) };
+    ghost invariant = { λ k.
+        (k.no_columns ≡ []) × AreEarlier k.len (named_definitions k.names.entries) };
 }
 
 impl Known {
@@ -122,7 +122,8 @@ impl Known {
 
     /// Whether a new name is free.
     pub(crate) fn check_new(&self, name: Option<&str>) -> Result<(), StmtStop>
-        ensures { StmtReturns result (names.free_name self.now (option_map (λ s. s.now) name.entry)) }
+        ensures { StmtReturns result
+            (names.free_name self.now (option_map (λ s. s.now) name.entry)) }
     {
         let Some(name) = name else {
             return Ok(());

@@ -4,8 +4,8 @@ ghost use Rattle.std.specs.Prelude.{◌≡◌, None, Some, IfOk};
 ghost use Rattle.gx_types_stmts.specs.Makes.{is_of_sort};
 
 use crate::SharedType;
-use crate::sort::Sort;
 use gx_rows::NoMemory;
+use gx_types_clauses::Sort;
 
 /// The row types of what a statement makes. A table has `vertices` alone, an edge collection
 /// `edges` alone, and a graph both. An action has neither.

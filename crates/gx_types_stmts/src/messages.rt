@@ -1,26 +1,23 @@
-//! Statements in which edges send messages: `aggregate`, `pregel`. The short forms of `aggregate` are
-//! in short_forms.rt.
+//! Statements in which edges send messages: `aggregate`, `pregel`. The short forms of `aggregate`
+//! are in short_forms.rt.
 
 ghost use Rattle.std.specs.Prelude.{◌≡◌, ◌++◌, map};
+ghost use Rattle.gx_types_clauses.specs.Sending.{sent_exprs};
+ghost use Rattle.gx_types_clauses.specs.ClauseBounds.{AreTypable, AreTypableSets, IsColumnList};
+ghost use Rattle.gx_types_clauses.specs.StmtStops.{StmtReturns};
+ghost use Rattle.gx_types_clauses.specs.ValueTyping.{column_values};
 ghost use Rattle.gx_types_stmts.specs.Makes.{operand_types};
-ghost use Rattle.gx_types_stmts.specs.Sending.{sent_exprs};
-ghost use Rattle.gx_types_stmts.specs.StmtBounds.{AreTypable, AreTypableSets, IsColumnList};
 ghost use Rattle.gx_types_stmts.specs.StmtRules as rules;
-ghost use Rattle.gx_types_stmts.specs.StmtStops.{StmtReturns};
-ghost use Rattle.gx_types_stmts.specs.ValueTyping.{column_values};
 
-use crate::columns::check_same_columns;
-use crate::constants::type_row;
 use crate::graphs::types_of;
-use crate::merging::{merge_kinds, message_type};
-use crate::nodes::count_nodes;
 use crate::operand::Operand;
-use crate::sending::type_sends;
-use crate::sets::type_sets;
 use crate::typed_body::TypedBody;
-use crate::words::direction_of_written;
 use crate::{StmtStop, TypedStmt};
 use gx_syntax_tree::{ActiveWord, ColumnExpr, ColumnMerge, Const, SendClause};
+use gx_types_clauses::{
+    check_same_columns, count_nodes, direction_of_written, merge_kinds, message_type, type_row,
+    type_sends, type_sets,
+};
 use gx_types_exprs::ExprScope;
 use sqlite_items::Items;
 use std::alloc::Global;
@@ -76,17 +73,19 @@ pub(crate) struct PregelParts<'a> {
 /// # Errors
 ///
 /// The first check that fails; `NoMemory` if memory runs out.
-#[tactic(auto, using(crate::proofs::BoundLemmas::left_short, crate::proofs::BoundLemmas::right_short, crate::proofs::BoundLemmas::joined_counted))]
+#[tactic(auto, using(gx_types_clauses::specs::BoundLaws::left_short, gx_types_clauses::specs::BoundLaws::right_short, gx_types_clauses::specs::BoundLaws::joined_counted))]
 pub(crate) fn type_pregel(
     alloc: Global,
     graph: &Operand<'_>,
     parts: &PregelParts<'_>,
 ) -> Result<TypedBody, StmtStop>
-    requires exprs { AreTypable (column_values parts.now.program.now ++ sent_exprs parts.now.sends.now) }
+    requires exprs { AreTypable
+        (column_values parts.now.program.now ++ sent_exprs parts.now.sends.now) }
     requires merges { IsColumnList (map (λ m. m.name) parts.now.merges.now) }
     requires program { IsColumnList (map (λ s. s.name) parts.now.program.now) }
     ensures { StmtReturns result (rules.iterated_graph (operand_types graph.now) parts.now.rounds
-        parts.now.active parts.now.merges.now parts.now.initial.now parts.now.program.now parts.now.sends.now) }
+        parts.now.active parts.now.merges.now parts.now.initial.now parts.now.program.now
+        parts.now.sends.now) }
 {
     let scope = ExprScope::Triplet(graph.vertices.get(), graph.edges.get());
     let sends = type_sends(alloc, parts.sends, &scope, count_nodes(parts.program))?;

@@ -1,11 +1,10 @@
 //! The short forms of `aggregate`: `indegrees`, `outdegrees`, `degrees`, `neighbours`.
 
 ghost use Rattle.std.specs.Prelude.{◌≡◌, [], ◌∷◌, IfOk, Ok};
+ghost use Rattle.gx_types_clauses.specs.StmtStops.{StmtReturns};
 ghost use Rattle.gx_types_stmts.specs.Makes.{operand_types};
 ghost use Rattle.gx_types_stmts.specs.ShortForms as short_forms;
-ghost use Rattle.gx_types_stmts.specs.StmtStops.{StmtReturns};
 
-use crate::loads::lone_column;
 use crate::operand::Operand;
 use crate::typed_body::TypedBody;
 use crate::{EdgeEnd, StmtStop, TypedSend, TypedStmt};
@@ -13,6 +12,7 @@ use gx_expr::{Expr, Side};
 use gx_merge::MergeKind;
 use gx_rows::{NoMemory, Value, ValueKind};
 use gx_syntax_tree::NeighbourWord;
+use gx_types_clauses::lone_type;
 use sqlite_items::Items;
 use std::alloc::Global;
 
@@ -38,7 +38,7 @@ pub(crate) fn type_degrees(
     ensures { StmtReturns result
         (Ok (short_forms.degree_table (operand_types graph.now) direction)) }
 {
-    let degree = lone_column(alloc, "degree", ValueKind::Int)?;
+    let degree = lone_type(alloc, "degree", ValueKind::Int)?;
     let merges = lone_merge(alloc, MergeKind::Sum)?;
     let sends = sends_along(alloc, Content::One, direction)?;
     let stmt = TypedStmt::Aggregate {
@@ -63,7 +63,7 @@ pub(crate) fn type_neighbours(
     ensures { StmtReturns result
         (Ok (short_forms.neighbour_table (operand_types graph.now) direction)) }
 {
-    let ids = lone_column(alloc, "ids", ValueKind::Ids)?;
+    let ids = lone_type(alloc, "ids", ValueKind::Ids)?;
     let merges = lone_merge(alloc, MergeKind::Bag)?;
     let sends = sends_along(alloc, Content::Neighbour, direction)?;
     let stmt = TypedStmt::Aggregate {

@@ -1,20 +1,19 @@
 //! The check of one statement, and what is known after it.
 
 ghost use Rattle.std.specs.Prelude.{◌≡◌, ◌++◌, All, IfOk};
+ghost use Rattle.gx_types_stmts.specs.StmtBounds.{IsTypable};
+ghost use Rattle.gx_types_clauses.specs.StmtStops.{StmtReturns};
 ghost use Rattle.gx_types_stmts.specs.KnownNames.{IsEarlier};
 ghost use Rattle.gx_types_stmts.specs.Makes.{operand_types};
-ghost use Rattle.gx_types_stmts.specs.StmtBounds.{IsTypable};
 ghost use Rattle.gx_types_stmts.specs.StmtNumbers.{named_numbers};
-ghost use Rattle.gx_types_stmts.specs.StmtStops.{StmtReturns};
 ghost use Rattle.gx_types_stmts.specs.StmtTyping.{typed_stmt, used_number};
 
 use crate::body::type_body;
-use crate::limits::check_lists;
 use crate::operand::Operand;
-use crate::stmt_parts::parts_of;
 use crate::{CheckedStmt, Known, StmtStop};
 use gx_rows::NoMemory;
 use gx_syntax_tree::Stmt;
+use gx_types_clauses::{check_lists, parts_of};
 use sqlite_items::Items;
 use std::alloc::Global;
 

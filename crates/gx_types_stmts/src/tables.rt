@@ -2,19 +2,16 @@
 //! `leftjoin`.
 
 ghost use Rattle.std.specs.Prelude.{[], ◌∷◌, Ok};
+ghost use Rattle.gx_types_clauses.specs.ClauseBounds.{AreTypable, AreTypableSets};
+ghost use Rattle.gx_types_clauses.specs.StmtStops.{StmtReturns};
 ghost use Rattle.gx_types_stmts.specs.Makes.{operand_types};
-ghost use Rattle.gx_types_stmts.specs.StmtBounds.{AreTypable, AreTypableSets};
 ghost use Rattle.gx_types_stmts.specs.StmtRules as rules;
-ghost use Rattle.gx_types_stmts.specs.StmtStops.{StmtReturns};
 
-use crate::columns::check_same_kinds;
-use crate::constants::type_row;
 use crate::operand::Operand;
-use crate::sets::type_sets;
-use crate::tests_of_rows::type_condition;
 use crate::typed_body::TypedBody;
 use crate::{StmtStop, TypedStmt};
 use gx_syntax_tree::{ColumnExpr, Const, Expr};
+use gx_types_clauses::{check_same_kinds, type_condition, type_row, type_sets};
 use gx_types_exprs::ExprScope;
 use sqlite_items::Items;
 use std::alloc::Global;
@@ -24,7 +21,7 @@ use std::alloc::Global;
 /// # Errors
 ///
 /// The first check that fails; `NoMemory` if memory runs out.
-#[tactic(auto, using(crate::proofs::BoundLemmas::lone_short, crate::proofs::BoundLemmas::lone_counted))]
+#[tactic(auto, using(gx_types_clauses::specs::BoundLaws::lone_short, gx_types_clauses::specs::BoundLaws::lone_counted))]
 pub(crate) fn type_filter(
     alloc: Global,
     table: &Operand<'_>,

@@ -97,8 +97,8 @@ pub enum TypedStmt {
         merges: Items<MergeKind>,
         nodes: u32,
     },
-    /// `pregel`. The faults of its merges are numbered from `nodes` on, the number of the nodes that
-    /// are written in the statement.
+    /// `pregel`. The faults of its merges are numbered from `nodes` on, the number of the nodes
+    /// that are written in the statement.
     Pregel {
         graph: u32,
         rounds: u32,

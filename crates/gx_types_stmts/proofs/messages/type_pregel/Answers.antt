@@ -1,6 +1,6 @@
-use Rattle.gx_types_stmts.specs.Sending.{sent_exprs}
-use Rattle.gx_types_stmts.specs.ValueTyping.{column_values}
-use Rattle.gx_types_stmts.proofs.BoundLemmas.{left_typable, right_short}
+use Rattle.gx_types_clauses.specs.Sending.{sent_exprs}
+use Rattle.gx_types_clauses.specs.ValueTyping.{column_values}
+use Rattle.gx_types_clauses.specs.BoundLaws.{left_typable, right_short}
 use Rattle.gx_types_stmts.proofs.messages.type_pregel.Goals as goal
 
 pub type_sends-requires-clause-short_texts : goal.type_sends-requires-clause-short_texts

@@ -1,0 +1,12 @@
+pub mod BoundLaws
+pub mod ClauseBounds
+pub mod ColumnLists
+pub mod Constants
+pub mod DeclaredColumns
+pub mod Merging
+pub mod NamedParts
+pub mod SameColumns
+pub mod Sending
+pub mod StmtStops
+pub mod StmtWords
+pub mod ValueTyping

@@ -1,7 +1,0 @@
-use Rattle.gx_types_stmts.specs.ValueTyping.{column_values}
-use Rattle.gx_types_stmts.proofs.NodeCounts.{IsCountOf}
-use Rattle.gx_types_stmts.proofs.nodes.count_nodes.Given as goal
-
--- the nodes of the columns passed
-abbrev pub invariant-sets : goal.invariant-sets
-invariant-sets l = IsCountOf (column_values l.set-items) l.set-index l.count
