@@ -60,7 +60,8 @@ was_added p s = is_some (get_or p.results (s - 1) None)
 abbrev pub forced : World → Planned → ℕ → Course
 forced w p s =
     if was_added p s then still p
-    else phases w s (phases_of w.script (with_number (source_of w) p s) s) (with_number (source_of w) p s)
+    else phases w s (phases_of w.script (with_number (source_of w) p s) s)
+    (with_number (source_of w) p s)
 
 -- ---- several statements
 

@@ -16,8 +16,8 @@ pub record AreFaultless (w : World) (p : Planned) (n m : ℕ) : Type 0 where
   pub within : m ≤ length p.lineage.nodes
   pub none : (k : ℕ) → n ≤ k → k < m → fault_in w (recipe_at p.recipes k) ≡ None
 
--- from node n on: after nodes that have no fault of their own, each phase demands earlier nodes than the next one,
--- or the next one alone; the nodes after the last phase have no fault of their own
+-- from node n on: after nodes that have no fault of their own, a phase demands earlier nodes than
+-- the next one, or the next one alone; the nodes after the last phase have no fault of their own
 abbrev pub AreInOrder : World → Planned → ℕ → List (List NodeId) → Type 0
 AreInOrder w p n [] = AreFaultless w p n (length p.lineage.nodes)
 AreInOrder w p n (ns ∷ rest) =

@@ -16,7 +16,8 @@ held_by w r i = held_kind w r.kind r i
 
 -- the fault of part i of a node of this recipe: the least of its statement on that part
 abbrev pub fault_by : World → Recipe → ℕ → Option BlockStop
-fault_by w r i = fault_kind w r.kind r (part_of_value r.kind w.parts i) (statement_of w.script r.statement)
+fault_by w r i =
+    fault_kind w r.kind r (part_of_value r.kind w.parts i) (statement_of w.script r.statement)
 
 abbrev pub recipe_of_block : Planned → BlockId → Recipe
 recipe_of_block p b = recipe_at p.recipes b.node.0

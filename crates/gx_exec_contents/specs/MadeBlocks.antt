@@ -56,7 +56,7 @@ vertices_kept holds vertices =
 abbrev pub edges_moved : World → ℕ → Cut → List Content → Content
 edges_moved w i cut contents = Edges (edge_order_of (edges_placed_in cut i w.parts (flat_map edges_held contents)))
 
--- part i of a statement's node of this kind and recipe, made of these contents of inputs that are not stopped
+-- part i of a statement's node of this kind and recipe, made of inputs that are not stopped
 abbrev pub made_kind : World → Kind → Recipe → ℕ → TypedStmt → List Content → Content
 made_kind w kind.Vertices r i (stmts.Vertices file) contents =
     Table (table_of (part_of_vertices w.parts i (vertices_loaded w.loads r.statement)))
@@ -64,14 +64,20 @@ made_kind w kind.Edges r i (stmts.Edges file) contents =
     Edges (edge_order_of (part_of_edges i (placed_from (place_in w) 0 (rows_loaded w.loads r.statement))))
 made_kind w kind.Edges r i (stmts.EdgeList file oriented) contents =
     Edges (edge_order_of (part_of_edges i (placed_from (place_in w) 0 (rows_loaded w.loads r.statement))))
-made_kind w kind.Vertices r i (stmts.Graph t e default) (c ∷ contents) = completed w i (vertices_held c) default contents
+made_kind w kind.Vertices r i (stmts.Graph t e default) (c ∷ contents) =
+    completed w i (vertices_held c) default contents
 made_kind w kind.Vertices r i (stmts.FromEdges e row) contents = completed w i [] row contents
 made_kind w kind.Edges r i (stmts.Partition g cut) contents = edges_moved w i cut contents
-made_kind w kind.Vertices r i (stmts.MapVertices g sets) (c ∷ contents) = mapped sets (vertices_held c)
-made_kind w kind.Vertices r i (stmts.Filter t condition) (c ∷ contents) = vertices_kept (test_result condition) (vertices_held c)
-made_kind w kind.Vertices r i (stmts.MapValues t sets) (c ∷ contents) = mapped sets (vertices_held c)
-made_kind w kind.Vertices r i (stmts.Minus t u) (c ∷ d ∷ contents) = Table (minus (vertices_held c) (vertices_held d))
-made_kind w kind.Vertices r i (stmts.Diff t u) (c ∷ d ∷ contents) = Table (diff (vertices_held c) (vertices_held d))
+made_kind w kind.Vertices r i (stmts.MapVertices g sets) (c ∷ contents) =
+    mapped sets (vertices_held c)
+made_kind w kind.Vertices r i (stmts.Filter t condition) (c ∷ contents) =
+    vertices_kept (test_result condition) (vertices_held c)
+made_kind w kind.Vertices r i (stmts.MapValues t sets) (c ∷ contents) =
+    mapped sets (vertices_held c)
+made_kind w kind.Vertices r i (stmts.Minus t u) (c ∷ d ∷ contents) =
+    Table (minus (vertices_held c) (vertices_held d))
+made_kind w kind.Vertices r i (stmts.Diff t u) (c ∷ d ∷ contents) =
+    Table (diff (vertices_held c) (vertices_held d))
 made_kind w kind.Vertices r i (stmts.InnerJoin t u sets) (c ∷ d ∷ contents) =
     vertices_made join_id (inner_row sets) (inner_join (vertices_held c) (vertices_held d))
 made_kind w kind.Vertices r i (stmts.LeftJoin t u default sets) (c ∷ d ∷ contents) =
@@ -82,4 +88,5 @@ made_kind w kind.Edges r i _ contents = Edges []
 -- part i of a node of this recipe, made of these contents of inputs: stopped if one of them is
 abbrev pub made_by : World → Recipe → ℕ → List Content → Content
 made_by w r i contents =
-    stop_or (first_given stop_in contents) (made_kind w r.kind r i (statement_of w.script r.statement) contents)
+    stop_or (first_given stop_in contents)
+    (made_kind w r.kind r i (statement_of w.script r.statement) contents)

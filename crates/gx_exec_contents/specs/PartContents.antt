@@ -30,10 +30,10 @@ part_of_vertices parts i vertices = filter (λ v. is_in_part i parts v.0) vertic
 abbrev pub part_of_edges : ℕ → List (ℕ × Edge) → List Edge
 part_of_edges i edges = plain_edges (filter (λ e. e.0 == i) edges)
 
--- a value with the vertices, or the edges, of part i alone, as a node of this kind takes it part by part
+-- a value with the vertices, or the edges, of part i alone: what a node of this kind takes in parts
 abbrev pub part_of_value : Kind → ℕ → ℕ → Graph ℕ → Graph ℕ
-part_of_value kind.Vertices parts i g = record { vertices = part_of_vertices parts i g.vertices; edges = g.edges }
-part_of_value kind.Edges parts i g = record { vertices = g.vertices; edges = filter (λ e. e.0 == i) g.edges }
+part_of_value kind.Vertices parts i g = record g { vertices = part_of_vertices parts i g.vertices }
+part_of_value kind.Edges parts i g = record g { edges = filter (λ e. e.0 == i) g.edges }
 
 -- ---- contents
 
@@ -71,7 +71,7 @@ stop_on_vertex f = record { key = row_key.Vertex f.0; expr = f.1.1; cause = f.1.
 abbrev pub stop_over_vertices : {A : Type 0} → (Vertex → Result A (Cause × ℕ)) → List Vertex → Option BlockStop
 stop_over_vertices result vertices = option_map stop_on_vertex (least_fault id_cmp (faults_on_vertices result vertices))
 
--- the fault of a statement's node of this kind and recipe, where values are cut so: to a part, or not at all
+-- the fault of a statement's node of this kind and recipe, over values that are cut to a part or whole
 abbrev pub fault_kind : World → Kind → Recipe → (Graph ℕ → Graph ℕ) → TypedStmt → Option BlockStop
 fault_kind w kind.Vertices r cut (stmts.MapVertices g sets) =
     stop_over_vertices (vertex_row_result sets) (cut (value_in w g)).vertices
@@ -83,7 +83,8 @@ fault_kind w kind.Vertices r cut (stmts.InnerJoin t u sets) =
     stop_over_vertices (join_row_result sets (cut (value_in w u)).vertices [])
     (vertices_in_both (cut (value_in w t)).vertices (cut (value_in w u)).vertices)
 fault_kind w kind.Vertices r cut (stmts.LeftJoin t u default sets) =
-    stop_over_vertices (join_row_result sets (cut (value_in w u)).vertices default) (cut (value_in w t)).vertices
+    stop_over_vertices (join_row_result sets (cut (value_in w u)).vertices default)
+    (cut (value_in w t)).vertices
 fault_kind w _ r cut _ = None
 
 -- ---- stops

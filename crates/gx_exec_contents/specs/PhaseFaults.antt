@@ -59,7 +59,8 @@ LeastAreFaults = (w : World) → IsWorld w → (r : Recipe) → least_over (faul
 -- the first fault of a statement's own nodes is the model's fault of the statement
 abbrev pub OwnFaultsAreOfModel : Type 0
 OwnFaultsAreOfModel = (w : World) (s : ℕ) (st : TypedStmt)
-    → first_given (λ k. option_map (fault_of_stop s) (fault_kind w k (recipe_of k s) (λ g. g) st)) (own_kinds st)
+    → first_given (λ k. option_map (fault_of_stop s) (fault_kind w k (recipe_of k s) (λ g. g) st))
+    (own_kinds st)
     ≡ fault_of_stmt (placed_values w) s st
 
 -- ---- by the blocks of a node

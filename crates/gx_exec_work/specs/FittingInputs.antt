@@ -13,7 +13,8 @@ use Rattle.gx_plan.specs.declared.kind.Kind.TheVariants as kind
 use Rattle.gx_plan.specs.declared.recipe.Recipe.{Recipe}
 
 -- a content is of the kind of its node, or stopped
-kind-of_content : (w : World) (k : Kind) (r : Recipe) (i : ℕ) (stop : Option BlockStop) → IsOfKind k (stop_or stop (held_kind w k r i))
+kind-of_content : (w : World) (k : Kind) (r : Recipe) (i : ℕ) (stop : Option BlockStop)
+    → IsOfKind k (stop_or stop (held_kind w k r i))
 kind-of_content w kind.Vertices r i None = tt
 kind-of_content w kind.Edges r i None = tt
 kind-of_content w kind.Vertices r i (Some s) = tt
@@ -25,9 +26,15 @@ contents-fit e [] [] h = tt
 contents-fit e [] (t ∷ ts) h = h
 contents-fit e (b ∷ bs) [] h = h
 contents-fit e (b ∷ bs) (t ∷ ts) h =
-    let r = recipe_of_block e.planned b in
-    (subst (IsOfKind r.kind) (sym h.0.content) (kind-of_content e.world r.kind r b.part (stop_of e.world e.planned b)), contents-fit e bs ts h.1)
+    let r = recipe_of_block e.planned b in (
+      subst (IsOfKind r.kind) (sym h.0.content)
+          (kind-of_content e.world r.kind r b.part (stop_of e.world e.planned b)),
+      contents-fit e bs ts h.1,
+    )
 
 pub contents_of_inputs-fit : (e : PlannedWorld) (b : BlockId) (ts : List Block) → IsBlock e.planned.lineage b
     → AllZip (IsContentOf e) (block_inputs e.planned.lineage b) ts → FitsBlock e b ts
-contents_of_inputs-fit e b ts block h = record { block = block; inputs = λ setting. contents-fit e (block_inputs e.planned.lineage b) ts h }
+contents_of_inputs-fit e b ts block h = record {
+  block = block;
+  inputs = λ setting. contents-fit e (block_inputs e.planned.lineage b) ts h;
+}

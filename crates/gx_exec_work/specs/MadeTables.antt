@@ -40,18 +40,25 @@ left_made default sets p = vertices_made join_id (left_row sets default) (left_j
 abbrev pub graph_made : World → ℕ → List Value → List Content → Content
 graph_made w i default contents = made_if (λ vertices. completed w i vertices default (drop 1 contents)) (first_table contents)
 
--- part i of the vertices of a statement, by their recipe, made of these contents of inputs that are not stopped
+-- part i of the vertices of a statement, by their recipe, made of inputs that are not stopped
 abbrev pub made_vertices : World → Recipe → ℕ → TypedStmt → List Content → Content
-made_vertices w r i (stmts.Vertices file) contents = Table (table_of (part_of_vertices w.parts i (vertices_loaded w.loads r.statement)))
+made_vertices w r i (stmts.Vertices file) contents =
+    Table (table_of (part_of_vertices w.parts i (vertices_loaded w.loads r.statement)))
 made_vertices w r i (stmts.Graph t e default) contents = graph_made w i default contents
 made_vertices w r i (stmts.FromEdges e row) contents = completed w i [] row contents
-made_vertices w r i (stmts.MapVertices g sets) contents = made_if (mapped sets) (first_table contents)
-made_vertices w r i (stmts.Filter t condition) contents = made_if (vertices_kept (test_result condition)) (first_table contents)
+made_vertices w r i (stmts.MapVertices g sets) contents =
+    made_if (mapped sets) (first_table contents)
+made_vertices w r i (stmts.Filter t condition) contents =
+    made_if (vertices_kept (test_result condition)) (first_table contents)
 made_vertices w r i (stmts.MapValues t sets) contents = made_if (mapped sets) (first_table contents)
-made_vertices w r i (stmts.Minus t u) contents = made_if (λ p. Table (minus p.0 p.1)) (two_tables contents)
-made_vertices w r i (stmts.Diff t u) contents = made_if (λ p. Table (diff p.0 p.1)) (two_tables contents)
-made_vertices w r i (stmts.InnerJoin t u sets) contents = made_if (inner_made sets) (two_tables contents)
-made_vertices w r i (stmts.LeftJoin t u default sets) contents = made_if (left_made default sets) (two_tables contents)
+made_vertices w r i (stmts.Minus t u) contents =
+    made_if (λ p. Table (minus p.0 p.1)) (two_tables contents)
+made_vertices w r i (stmts.Diff t u) contents =
+    made_if (λ p. Table (diff p.0 p.1)) (two_tables contents)
+made_vertices w r i (stmts.InnerJoin t u sets) contents =
+    made_if (inner_made sets) (two_tables contents)
+made_vertices w r i (stmts.LeftJoin t u default sets) contents =
+    made_if (left_made default sets) (two_tables contents)
 made_vertices w r i _ contents = Table []
 
 -- the second input has no table here, so that it counts as empty; without it there is nothing to make

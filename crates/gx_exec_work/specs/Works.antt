@@ -51,9 +51,10 @@ IsOfKind _ _ = ⊥
 -- each value is of the kind of the node of its input, or stopped
 abbrev pub AreOfKinds : PlannedWorld → BlockId → List Block → Type 0
 AreOfKinds e b values =
-    AllZip (λ c t. IsOfKind (recipe_of_block e.planned c).kind (shown t)) (block_inputs e.planned.lineage b) values
+    AllZip (λ c t. IsOfKind (recipe_of_block e.planned c).kind (shown t))
+    (block_inputs e.planned.lineage b) values
 
--- the block is in the plan, and if that is one of the world, the values are of the kinds of the inputs
+-- the block is in the plan, and if that is one of the world, the values are of the inputs' kinds
 pub record FitsBlock (e : PlannedWorld) (b : BlockId) (values : List Block) : Type 0 where
   pub block : IsBlock e.planned.lineage b
   pub inputs : IsSetting e.world e.planned → AreOfKinds e b values

@@ -46,7 +46,7 @@ impl GraphWork {
     }
 
     // The recipe of the node of a block.
-    pub(crate) fn recipe(&self, b: BlockId) -> Recipe
+    fn recipe(&self, b: BlockId) -> Recipe
         requires { IsBlock self.now.planned.lineage b }
         ensures is { result ≡ recipe_of_block self.now.planned b }
         ensures own { IsOwnRecipe self.now.world.script result }
@@ -66,12 +66,7 @@ impl GraphWork {
     }
 
     // Part `part` of a node of this recipe, of inputs that are not stopped.
-    pub(crate) fn make_by(
-        &self,
-        r: Recipe,
-        part: u32,
-        inputs: &[Rc<Block>],
-    ) -> Result<Block, NoMemory>
+    fn make_by(&self, r: Recipe, part: u32, inputs: &[Rc<Block>]) -> Result<Block, NoMemory>
         requires own { IsOwnRecipe self.now.world.script r }
         requires in_range { part < self.now.world.parts }
         ensures { IfOk result (λ t. shown t

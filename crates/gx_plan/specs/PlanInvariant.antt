@@ -75,7 +75,8 @@ pub record IsOwnRecipe (script : List CheckedStmt) (r : Recipe) : Type 0 where
   pub fit : Fits r.kind (statement_of script r.statement) r
 
 -- a node of this recipe has these inputs
-pub record IsFed (source : ScriptWithCut) (recipes : List Recipe) (r : Recipe) (inputs : List Input) : Type 0 where
+pub record IsFed (source : ScriptWithCut) (recipes : List Recipe) (r : Recipe) (inputs : List Input)
+    : Type 0 where
   pub own : IsOwnRecipe source.script r
   pub read : AreInputsFor source.script recipes (feeds source r) inputs
 
@@ -85,7 +86,8 @@ pub record IsPlan (source : ScriptWithCut) (p : Planned) : Type 0 where
   pub recipes : length p.recipes ≡ length p.lineage.nodes
   pub results : length p.results ≡ length source.script
   -- the nodes of each result
-  pub nodes : (r : Recipe) → is_result r.kind ≡ true → IsAdded p r.statement → HasNodeFor source.script p r
+  pub nodes : (r : Recipe) → is_result r.kind ≡ true → IsAdded p r.statement
+      → HasNodeFor source.script p r
   pub fed : (n : ℕ) → n < length p.recipes
       → IsFed source p.recipes (recipe_at p.recipes n) (node_inputs p.lineage (record { 0 = n }))
 
@@ -114,5 +116,6 @@ pub record IsFrontOf (p q : Planned) : Type 0 where
   pub nodes : q.lineage.nodes ≡ p.lineage.nodes ++ more_nodes
   pub more_recipes : List Recipe
   pub recipes : q.recipes ≡ p.recipes ++ more_recipes
-  pub results : (s : ℕ) → IsAdded p s → get_or q.results (s - 1) None ≡ get_or p.results (s - 1) None
+  pub results : (s : ℕ) → IsAdded p s
+      → get_or q.results (s - 1) None ≡ get_or p.results (s - 1) None
   pub added : (s : ℕ) → IsAdded p s → IsAdded q s

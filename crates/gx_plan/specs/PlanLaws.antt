@@ -16,12 +16,13 @@ use Rattle.gx_plan.specs.declared.recipe.Recipe.{Recipe}
 
 -- a plan with one more statement is a plan
 abbrev pub AddedArePlans : Type 0
-AddedArePlans = (source : ScriptWithCut) (p : Planned) (s : ℕ) → MayAdd source p s → IsPlan source (with_number source p s)
+AddedArePlans = (source : ScriptWithCut) (p : Planned) (s : ℕ)
+    → MayAdd source p s → IsPlan source (with_number source p s)
 
 -- a plan is the beginning of the plan with one more statement
 abbrev pub PlansAreFronts : Type 0
-PlansAreFronts = (source : ScriptWithCut) (p : Planned) (s : ℕ) → 1 ≤ s → get_or p.results (s - 1) None ≡ None
-    → IsFrontOf p (with_number source p s)
+PlansAreFronts = (source : ScriptWithCut) (p : Planned) (s : ℕ)
+    → 1 ≤ s → get_or p.results (s - 1) None ≡ None → IsFrontOf p (with_number source p s)
 
 -- the beginning of a beginning is a beginning
 abbrev pub FrontsAreJoined : Type 0
@@ -45,12 +46,15 @@ pub record IsEarlierOf (script : List CheckedStmt) (s : ℕ) (k : Kind) (m : ℕ
 
 -- what is read, if it is a result, is made by a statement before s
 abbrev pub ReadsEarlier : List CheckedStmt → ℕ → Feed → Type 0
-ReadsEarlier script s f = reads_result f ≡ true → IsEarlierOf script s f.recipe.kind f.recipe.statement
+ReadsEarlier script s f =
+    reads_result f ≡ true → IsEarlierOf script s f.recipe.kind f.recipe.statement
 
 -- each result that a statement reads or takes over is made by an earlier one
 pub record HasSorts (source : ScriptWithCut) : Type 0 where
-  pub taken : (s m : ℕ) (k : Kind) → 1 ≤ s → inherits k (statement_of source.script s) ≡ Some m → IsEarlierOf source.script s k m
-  pub read : (r : Recipe) → 1 ≤ r.statement → AllByRecursion (ReadsEarlier source.script r.statement) (feeds source r)
+  pub taken : (s m : ℕ) (k : Kind) → 1 ≤ s → inherits k (statement_of source.script s) ≡ Some m
+      → IsEarlierOf source.script s k m
+  pub read : (r : Recipe) → 1 ≤ r.statement
+      → AllByRecursion (ReadsEarlier source.script r.statement) (feeds source r)
 
 abbrev pub IsOwned : List CheckedStmt → Kind → ℕ → Type 0
 IsOwned script k s = (owner : ℕ) × Owns script k s owner
@@ -61,8 +65,10 @@ ReadsOwned script f = reads_result f ≡ true → IsOwned script f.recipe.kind f
 
 -- if names are of the right sorts, each node of a result that is there or is read has an owner
 pub record AreOwned (source : ScriptWithCut) : Type 0 where
-  pub results : (s : ℕ) (k : Kind) → 1 ≤ s → makes_kind k (statement_of source.script s) ≡ true → IsOwned source.script k s
-  pub read : (r : Recipe) → 1 ≤ r.statement → AllByRecursion (ReadsOwned source.script) (feeds source r)
+  pub results : (s : ℕ) (k : Kind) → 1 ≤ s → makes_kind k (statement_of source.script s) ≡ true
+      → IsOwned source.script k s
+  pub read : (r : Recipe) → 1 ≤ r.statement
+      → AllByRecursion (ReadsOwned source.script) (feeds source r)
 
 abbrev pub SortedAreOwned : Type 0
 SortedAreOwned = (source : ScriptWithCut) → HasSorts source → AreOwned source

@@ -101,7 +101,7 @@ first_planned n p = record { lineage = first_nodes n p.lineage; recipes = take n
 
 -- ---- one more statement
 
--- the plan with the nodes of the view of a graph that is asked for; no statement asks for one so far
+-- the plan with the nodes of the view of this graph, if one is asked for: none is so far
 abbrev pub viewed : ScriptWithCut → Planned → Option GraphName → Planned
 viewed source p None = p
 viewed source p (Some g) = p
@@ -134,12 +134,14 @@ with_result p s l = record p { results = set p.results (s - 1) (Some l) }
 
 -- the plan with the own nodes of statement s, which is `st`, and its result
 abbrev pub with_statement : ScriptWithCut → Planned → ℕ → TypedStmt → Planned
-with_statement source p s st = with_result (with_recipes source p (own_recipes p s st)) s (result_of p st)
+with_statement source p s st =
+    with_result (with_recipes source p (own_recipes p s st)) s (result_of p st)
 
 -- the plan with statement s: the view that it asks for, and then its own nodes
 abbrev pub with_number : ScriptWithCut → Planned → ℕ → Planned
 with_number source p s =
-    with_statement source (viewed source p (asks (statement_of source.script s))) s (statement_of source.script s)
+    with_statement source (viewed source p (asks (statement_of source.script s))) s
+    (statement_of source.script s)
 
 -- ---- phases
 
@@ -155,7 +157,7 @@ phase_at ns = if length ns == 0 then [] else ns ∷ []
 abbrev pub own_phases : Planned → ℕ → List Kind → List (List NodeId)
 own_phases p s ks = flat_map (λ k. phase_at (nodes_of p (recipe_of k s ∷ []))) ks
 
--- the target nodes of each phase of statement s, which is `st`: of each node that it adds, and of what it demands
+-- the target nodes of each phase of statement s, `st`: of its own nodes, and of what it demands
 abbrev pub phases_of_stmt : Planned → ℕ → TypedStmt → List (List NodeId)
 phases_of_stmt p s st = own_phases p s (own_kinds st) ++ phase_at (nodes_of p (demanded_by st))
 

@@ -44,7 +44,8 @@ own_kinds _ = []
 
 -- what a statement's own node of a kind reads, input by input, in a script and by its whole recipe
 abbrev pub feeds_kind : Kind → TypedStmt → ScriptWithCut → Recipe → List Feed
-feeds_kind Vertices (stmts.Graph t e default) source r = same_part Vertices t ∷ each_part Edges e ∷ []
+feeds_kind Vertices (stmts.Graph t e default) source r =
+    same_part Vertices t ∷ each_part Edges e ∷ []
 feeds_kind Vertices (stmts.FromEdges e row) source r = each_part Edges e ∷ []
 feeds_kind Edges (stmts.Reverse g) source r = same_part Edges g ∷ []
 feeds_kind Vertices (stmts.Mask g by) source r = same_part Vertices g ∷ same_part Vertices by ∷ []
@@ -52,14 +53,18 @@ feeds_kind Edges (stmts.Mask g by) source r = same_part Edges g ∷ each_part Ed
 feeds_kind Edges (stmts.Partition g cut) source r = each_part Edges g ∷ []
 feeds_kind Vertices (stmts.MapVertices g sets) source r = same_part Vertices g ∷ []
 feeds_kind Edges (stmts.MapEdges g sets) source r = same_part Edges g ∷ []
-feeds_kind Vertices (stmts.JoinVertices g t sets) source r = same_part Vertices g ∷ same_part Vertices t ∷ []
-feeds_kind Vertices (stmts.OuterJoin g t default sets) source r = same_part Vertices g ∷ same_part Vertices t ∷ []
+feeds_kind Vertices (stmts.JoinVertices g t sets) source r =
+    same_part Vertices g ∷ same_part Vertices t ∷ []
+feeds_kind Vertices (stmts.OuterJoin g t default sets) source r =
+    same_part Vertices g ∷ same_part Vertices t ∷ []
 feeds_kind Vertices (stmts.Filter t condition) source r = same_part Vertices t ∷ []
 feeds_kind Vertices (stmts.MapValues t sets) source r = same_part Vertices t ∷ []
 feeds_kind Vertices (stmts.Minus t u) source r = same_part Vertices t ∷ same_part Vertices u ∷ []
 feeds_kind Vertices (stmts.Diff t u) source r = same_part Vertices t ∷ same_part Vertices u ∷ []
-feeds_kind Vertices (stmts.InnerJoin t u sets) source r = same_part Vertices t ∷ same_part Vertices u ∷ []
-feeds_kind Vertices (stmts.LeftJoin t u default sets) source r = same_part Vertices t ∷ same_part Vertices u ∷ []
+feeds_kind Vertices (stmts.InnerJoin t u sets) source r =
+    same_part Vertices t ∷ same_part Vertices u ∷ []
+feeds_kind Vertices (stmts.LeftJoin t u default sets) source r =
+    same_part Vertices t ∷ same_part Vertices u ∷ []
 feeds_kind _ _ source r = []
 
 -- the statement whose node of this kind a statement takes over, if it does
@@ -99,5 +104,6 @@ abbrev pub feeds : ScriptWithCut → Recipe → List Feed
 feeds source r = feeds_kind r.kind (statement_of source.script r.statement) source r
 
 -- `mask` adds two nodes; `mapvertices` takes over the edges of its graph
-two-own-nodes : (own_kinds (stmts.Mask 1 2) ≡ Vertices ∷ Edges ∷ []) × (inherits Edges (stmts.MapVertices 2 []) ≡ Some 2)
+two-own-nodes : (own_kinds (stmts.Mask 1 2) ≡ Vertices ∷ Edges ∷ [])
+    × (inherits Edges (stmts.MapVertices 2 []) ≡ Some 2)
 two-own-nodes = (refl, refl)
