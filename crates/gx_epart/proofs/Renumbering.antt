@@ -158,9 +158,9 @@ module _ (ids : List Vid) (rows : List (List Value)) where
       (λ k within marked. elim (set-cases (set marks e.src true) e.dst k marked) [
         | inl here ↦ ap (λ n. has_id (id_of_number ids n) ends) here ∙ dst_known
         | inr before ↦ elim (set-cases marks e.src k before) [
-            | inl first ↦ ap (λ n. has_id (id_of_number ids n) ends) first ∙ src_known
-            | inr old ↦ are k within old
-          ]
+          | inl first ↦ ap (λ n. has_id (id_of_number ids n) ends) first ∙ src_known
+          | inr old ↦ are k within old
+        ]
       ])
       (λ v there. known v (ap (λ b. is_same_id v src || (is_same_id v dst || b)) there ∙ ap (λ b. is_same_id v src || b) (or-true (is_same_id v dst)) ∙ or-true (is_same_id v src)))
 

@@ -47,11 +47,7 @@ fn marks_of(alloc: Global, count: usize, edges: &[LocalEdge]) -> Result<Vec<bool
 }
 
 // The identifiers with a mark, and by number how many of those before it have one.
-fn left_ids(
-    alloc: Global,
-    ids: &[Vid],
-    marks: &[bool],
-) -> Result<(Vec<Vid>, Vec<u32>), NoMemory>
+fn left_ids(alloc: Global, ids: &[Vid], marks: &[bool]) -> Result<(Vec<Vid>, Vec<u32>), NoMemory>
     requires few { length ids.now < 2 ^ 32 }
     requires one_mark_each { length marks.now ≡ length ids.now }
     ensures ids { IfOk result (λ both. both.0.items ≡ masked_ids marks.now ids.now) }
