@@ -2,7 +2,6 @@ pub mod ActionCourses
 pub mod ActionRuns
 pub mod ActionsAmong
 pub mod LaterStatements
-pub mod LoadedColumns
 pub mod LogEnds
 pub mod ParsedScripts
 pub mod PrintedTexts

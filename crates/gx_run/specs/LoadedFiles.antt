@@ -1,5 +1,5 @@
 -- Data files, as a run reads them.
-use Rattle.std.specs.Prelude.{◌≡◌, ◌≤◌, ◌+◌, ◌-◌, ℕ, List, drop, length, slice_get, Option, None, Some, ⊤}
+use Rattle.std.specs.Prelude.{◌≡◌, ◌≤◌, ◌+◌, ◌-◌, ℕ, List, drop, slice_get, Option, None, Some, ⊤}
 use Rattle.std.specs.Option.{option_and_then}
 use Rattle.gx_rows.specs.Limits.{most_of}
 use Rattle.gx_rows.specs.declared.limit_kind.LimitKind.TheVariants as limit_kind
@@ -22,11 +22,6 @@ data_file_seen (files.EdgeList name oriented) = EdgeList name.now oriented
 
 abbrev pub loaded_seen : LoadedSoFar → model.LoadedSoFar
 loaded_seen l = record { loads = l.loads; bytes = l.bytes; rows = l.rows }
-
--- at most 16 columns come after the keys
-abbrev pub IsNarrowFile : model.DataFile → Type 0
-IsNarrowFile (Csv file keys columns) = length columns ≤ 16
-IsNarrowFile (EdgeList file oriented) = ⊤
 
 -- the file that statement s loads, if it is a load
 abbrev pub file_of_number : List CheckedStmt → ℕ → Option model.DataFile

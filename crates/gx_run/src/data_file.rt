@@ -1,8 +1,8 @@
 //! Data files, as load statements name them.
 
-ghost use Rattle.std.specs.Prelude.{◌≡◌, ◌≤◌, IfSome, length, option_map};
+ghost use Rattle.std.specs.Prelude.{◌≡◌, ◌≤◌, [], length, option_map};
 ghost use Rattle.gx_model.specs.DataFiles.{file_name};
-ghost use Rattle.gx_run.specs.LoadedFiles.{IsNarrowFile, data_file_seen, file_of_number};
+ghost use Rattle.gx_run.specs.LoadedFiles.{data_file_seen, file_of_number};
 
 use gx_rows::{RowType, Text};
 use gx_types::{Typed, TypedStmt};
@@ -28,34 +28,23 @@ pub(crate) enum DataFile<'a> {
 }
 
 impl<'a> DataFile<'a> {
-    /// The file that statement `s`, counted from 1, loads, if it is a load.
-    pub(crate) fn of(typed: &'a Typed, s: u32) -> Option<DataFile<'a>>
+    /// The file that statement `s`, counted from 1, loads, if it is a load. `no_columns` stands for
+    /// the columns of a load whose rows have no type.
+    pub(crate) fn of(typed: &'a Typed, s: u32, no_columns: &'a RowType) -> Option<DataFile<'a>>
         requires from_one { 1 ≤ s }
         requires within { s ≤ length typed.now }
-        ensures file { option_map data_file_seen result ≡ file_of_number typed.now s }
-        ensures narrow { IfSome result (λ f. IsNarrowFile (data_file_seen f)) }
+        requires no_columns { no_columns.now ≡ [] }
+        ensures { option_map data_file_seen result ≡ file_of_number typed.now s }
     {
-        // By this law a load of a CSV file makes rows of a type, with few columns.
-        typed.statements_are_sound();
         match typed.statement(s) {
-            TypedStmt::Vertices { file } => {
-                let Some(columns) = typed.vertex_type(s) else {
-                    unreachable!()
-                };
-                Some(DataFile::Vertices {
-                    name: file,
-                    columns,
-                })
-            }
-            TypedStmt::Edges { file } => {
-                let Some(columns) = typed.edge_type(s) else {
-                    unreachable!()
-                };
-                Some(DataFile::Edges {
-                    name: file,
-                    columns,
-                })
-            }
+            TypedStmt::Vertices { file } => Some(DataFile::Vertices {
+                name: file,
+                columns: typed.vertex_type(s).unwrap_or(no_columns),
+            }),
+            TypedStmt::Edges { file } => Some(DataFile::Edges {
+                name: file,
+                columns: typed.edge_type(s).unwrap_or(no_columns),
+            }),
             TypedStmt::EdgeList { file, oriented } => Some(DataFile::EdgeList {
                 name: file,
                 oriented: *oriented,

@@ -1,6 +1,6 @@
 //! The rows of a data file, or its refusal with the names of the file and of the column.
 
-ghost use Rattle.std.specs.Prelude.{◌≡◌, ◌<◌, ◌≤◌, ◌⊎◌, ◌^◌, IfOk, length, option_map};
+ghost use Rattle.std.specs.Prelude.{◌≡◌, ◌<◌, ◌⊎◌, ◌^◌, IfOk, length, option_map};
 ghost use Rattle.gx_load.specs.LoadResults.{Gives};
 ghost use Rattle.gx_load.specs.Loading.{rows_of_csv};
 ghost use Rattle.gx_model.specs.DataFiles.{
@@ -9,7 +9,7 @@ ghost use Rattle.gx_model.specs.DataFiles.{
   rows_in_file,
   rows_or_refusal,
 };
-ghost use Rattle.gx_run.specs.LoadedFiles.{IsNarrowFile, column_refused, data_file_seen};
+ghost use Rattle.gx_run.specs.LoadedFiles.{column_refused, data_file_seen};
 ghost use Rattle.gx_run.specs.Steps.{StepReturns};
 
 use crate::data_file::DataFile;
@@ -28,8 +28,7 @@ pub(crate) fn rows_in(
     file: &DataFile<'_>,
     bytes: &[u8],
 ) -> Result<Vec<(Vid, Vid, Row)>, Status>
-    requires short { length bytes.now < 2 ^ 32 }
-    requires narrow { IsNarrowFile (data_file_seen file.now) }
+    requires { length bytes.now < 2 ^ 32 }
     ensures { StepReturns (λ rows. rows.items) result (rows_or_refusal (data_file_seen file.now)
         (rows_in_file (data_file_seen file.now) bytes.now)) }
 {
@@ -45,8 +44,7 @@ fn spelled_rows(
     file: &DataFile<'_>,
     bytes: &[u8],
 ) -> Result<Vec<(Vid, Vid, Row)>, LoadStop>
-    requires short { length bytes.now < 2 ^ 32 }
-    requires narrow { IsNarrowFile (data_file_seen file.now) }
+    requires { length bytes.now < 2 ^ 32 }
     ensures { Gives (λ rows. rows.items) result (rows_in_file (data_file_seen file.now) bytes.now) }
 {
     match file {
@@ -56,7 +54,7 @@ fn spelled_rows(
     }
 }
 
-// The rows of a CSV file.
+// The rows of a CSV file. No memory holds a row type of as many columns as would be too many.
 fn csv_rows(
     alloc: Global,
     bytes: &[u8],
@@ -65,9 +63,11 @@ fn csv_rows(
 ) -> Result<Vec<(Vid, Vid, Row)>, LoadStop>
     requires short { length bytes.now < 2 ^ 32 }
     requires keyed { (keys ≡ 1) ⊎ (keys ≡ 2) }
-    requires narrow { length columns.now ≤ 16 }
     ensures { Gives (λ rows. rows.items) result (rows_of_csv keys columns.now bytes.now) }
 {
+    if columns.len() > u32::MAX - keys {
+        return Err(LoadStop::NoMemory);
+    }
     rows_of(alloc, bytes, keys, columns)
 }
 

@@ -7,7 +7,6 @@ ghost use Rattle.std.specs.Prelude.{
   ◌+◌,
   ◌^◌,
   IfErr,
-  IfSome,
   IsSomeAnd,
   OnOk,
   length,
@@ -26,7 +25,6 @@ ghost use Rattle.gx_model.specs.DataFiles.{
 ghost use Rattle.gx_run.specs.LoadedFiles.{
   HasSumsWithin,
   IsLoaded,
-  IsNarrowFile,
   data_file_seen,
   file_of_number,
   loaded_seen,
@@ -39,7 +37,7 @@ use crate::file_rows::rows_in;
 use gx_load::Loads;
 use gx_outside::Files;
 use gx_print::Status;
-use gx_rows::{LimitKind, Row, Vid};
+use gx_rows::{LimitKind, Row, RowType, Vid};
 use gx_types::Typed;
 use std::alloc::Global;
 
@@ -69,13 +67,14 @@ pub(crate) fn read_loads<F: Files>(
     ensures source_is_requested { IfErr result
         (λ refusal. NamesOnly refusal (IsLoaded typed.now)) }
 {
+    let no_columns = RowType::of(Vec::new(alloc));
     let mut so_far = LoadedSoFar {
         loads: Loads::new(alloc),
         bytes: 0,
         rows: 0,
     };
     for before in 0..typed.len() {
-        let file = DataFile::of(typed, before + 1);
+        let file = DataFile::of(typed, before + 1, &no_columns);
         load_if(alloc, files, before + 1, file, &mut so_far)?;
     }
     Ok(so_far.loads)
@@ -91,7 +90,6 @@ fn load_if<F: Files>(
 ) -> Result<(), Status>
     requires sums { HasSumsWithin so_far.old }
     requires few { length so_far.old.loads + 1 < 2 ^ 32 }
-    requires narrow { IfSome file (λ f. IsNarrowFile (data_file_seen f)) }
     ensures contents_kept { F.contents files.new ≡ F.contents files.old }
     ensures faults_only_rise { F.faults files.old ≤ F.faults files.new }
     ensures loaded { Reads (F.contents files.old) (F.faults files.old) (F.faults files.new)
@@ -119,7 +117,6 @@ fn load<F: Files>(
 ) -> Result<(), Status>
     requires sums { HasSumsWithin so_far.old }
     requires few { length so_far.old.loads + 1 < 2 ^ 32 }
-    requires narrow { IsNarrowFile (data_file_seen file.now) }
     ensures contents_kept { F.contents files.new ≡ F.contents files.old }
     ensures faults_only_rise { F.faults files.old ≤ F.faults files.new }
     ensures loaded { Reads (F.contents files.old) (F.faults files.old) (F.faults files.new)
@@ -147,7 +144,6 @@ impl LoadedSoFar {
         requires short { length bytes.now ≤ most_of limit.FileBytes }
         requires sums { HasSumsWithin self.old }
         requires few { length self.old.loads + 1 < 2 ^ 32 }
-        requires narrow { IsNarrowFile (data_file_seen file.now) }
         ensures added { StepReturns (λ _. loaded_seen self.new) result
             (with_bytes s (data_file_seen file.now) bytes.now (loaded_seen self.old)) }
         ensures sums { OnOk result (HasSumsWithin self.new) }
