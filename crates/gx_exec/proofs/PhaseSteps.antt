@@ -49,6 +49,7 @@ module _ (e : PlannedWorld) (s : ℕ) (start : State Block) (es : List Event) (c
   }
 
 -- no phase is left
-pub phased-quiet : (e : PlannedWorld) (s : ℕ) (start c : State Block) (all left : List (List NodeId)) → left ≡ [] → IsSetting e.world e.planned → IsPhased e s start c all left
+pub phased-quiet : (e : PlannedWorld) (s : ℕ) (start : State Block) (es : List Event) (c : State Block) (now : List Event)
+    (all left : List (List NodeId)) → left ≡ [] → IsSetting e.world e.planned → IsPhased e s start es c now all left
     → AreQuietBelow e.world e.planned (length e.planned.lineage.nodes)
-phased-quiet e s start c all left el setting so_far = none-next e setting (subst (AreNext e) el so_far.next)
+phased-quiet e s start es c now all left el setting so_far = none-next e setting (subst (AreNext e) el so_far.next)

@@ -26,5 +26,5 @@ loop-nodes-preserved c = record {
 
 pub returns-clause-quiet : goal.returns-clause-quiet
 returns-clause-quiet c =
-    phased-quiet c.args.self.now c.args.s c.args.cluster.now c.loop-nodes.cluster _ _
+    phased-quiet c.args.self.now c.args.s c.args.cluster.now c.args.events.now c.loop-nodes.cluster c.loop-nodes.events _ _
     (ap (map (λ v. v.items)) (drop_all c.loop-nodes.nodes-index c.deref-nodes-items.result.now c.loop-nodes-test.false)) c.is_set.ensures c.loop-nodes.invariant.phased
