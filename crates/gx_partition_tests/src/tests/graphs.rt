@@ -61,8 +61,21 @@ fn adds_missing_ends(rt: HostRuntime) -> Result<(), Fail> {
     let alloc = rt.alloc();
     assert_added(&rt, alloc, None, 1, 2, &[(2, 0)])?;
     assert_added(&rt, alloc, None, 0, 2, &[(1, 0), (3, 0), (9, 0)])?;
+    Ok(())
+}
+
+#[test]
+fn adds_missing_ends_beside_rows(rt: HostRuntime) -> Result<(), Fail> {
+    let alloc = rt.alloc();
     let known = two_rows(alloc)?;
     assert_added(&rt, alloc, Some(&known), 0, 2, &[(1, 10), (3, 30), (9, 0)])?;
+    Ok(())
+}
+
+#[test]
+fn adds_missing_ends_to_a_lone_part(rt: HostRuntime) -> Result<(), Fail> {
+    let alloc = rt.alloc();
+    let known = two_rows(alloc)?;
     let all = [(1, 10), (2, 0), (3, 30), (9, 0)];
     assert_added(&rt, alloc, Some(&known), 0, 1, &all)?;
     Ok(())
